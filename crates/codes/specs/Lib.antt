@@ -1,0 +1,3 @@
+pub mod Classes
+pub mod Levels
+pub mod Verdicts
