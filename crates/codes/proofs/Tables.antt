@@ -2,38 +2,21 @@
 use mathlib.Core.Path.{_≡_, refl, sym, ap, _∙_}
 use mathlib.Core.List.{List, [], _∷_, map, reverse}
 use Prim.Native.Nat.{ℕ, _+_, _*_, _<_}
-use lib.Dec.{eqb, eqb→eq}
+use lib.Dec.{eqb}
 use lib.ListN.{getD}
 use Rattle.std.specs.Joined.{joined}
+use Rattle.std.proofs.shelf.Ways.{decides-eqb}
 use Rattle.codes.specs.declared.classes.Class.{Class}
-use Rattle.codes.specs.declared.classes.Class.the-variants.{Ctrl, Non, Cons, Lv, Fv1, Fv2, Fv3, Bv1, Bv2, Bd, Tone, Ad1, Ad2, Ad3, Av1, Av2, Av3}
+use Rattle.codes.specs.declared.classes.Class.the-variants.{Ctrl}
 use Rattle.codes.specs.Classes.{below, classOf, classNumber, classLettered, classes, howMany, isMark, isText, listsWith}
 use Rattle.codes.specs.Levels.{levelNumbered, levelOf}
 use Rattle.codes.specs.Verdicts.{letterAt, row}
-use Rattle.codes.proofs.Every.{at-classes, at-below}
-
--- classes with one number are one class
-numbered : (c : Class) → getD classes (classNumber c) Ctrl ≡ c
-numbered Ctrl = refl
-numbered Non = refl
-numbered Cons = refl
-numbered Lv = refl
-numbered Fv1 = refl
-numbered Fv2 = refl
-numbered Fv3 = refl
-numbered Bv1 = refl
-numbered Bv2 = refl
-numbered Bd = refl
-numbered Tone = refl
-numbered Ad1 = refl
-numbered Ad2 = refl
-numbered Ad3 = refl
-numbered Av1 = refl
-numbered Av2 = refl
-numbered Av3 = refl
+use Rattle.codes.proofs.Every.{at-below, at-classes, every}
 
 pub by-number : (c d : Class) → classNumber c ≡ classNumber d → c ≡ d
-by-number c d e = sym (numbered c) ∙ ap (λ n. getD classes n Ctrl) e ∙ numbered d
+by-number c d e =
+    let numbered : (x : Class) → getD classes (classNumber x) Ctrl ≡ x = every _ (refl, (refl, (refl, (refl, (refl, (refl, (refl, (refl, (refl, (refl, (refl, (refl, (refl, (refl, (refl, (refl, (refl, tt))))))))))))))))) in
+    sym (numbered c) ∙ ap (λ n. getD classes n Ctrl) e ∙ numbered d
 
 -- the letter of each code's class, from code 0 on
 abbrev pub letters : List ℕ
@@ -42,11 +25,11 @@ letters = map (λ c. 65 + classNumber (classOf c)) (reverse (below 256))
 pub class-table : (k : ℕ) → k < 256 → classLettered (getD letters k 0) ≡ classOf k
 unfolding classOf
 class-table k h =
-    by-number _ _ (eqb→eq _ _ (at-below 256 (λ c. eqb (classNumber (classLettered (getD letters c 0))) (classNumber (classOf c))) tt k h))
+    by-number _ _ (decides-eqb _ _ .0 (at-below 256 (λ c. eqb (classNumber (classLettered (getD letters c 0))) (classNumber (classOf c))) refl k h))
 
 pub in-one-list : (k : ℕ) → k < 256 → listsWith k ≡ 1
 unfolding listsWith
-in-one-list k h = eqb→eq _ _ (at-below 256 (λ c. eqb (listsWith c) 1) tt k h)
+in-one-list k h = decides-eqb _ _ .0 (at-below 256 (λ c. eqb (listsWith c) 1) refl k h)
 
 pub text-codes : howMany isText ≡ 184
 unfolding howMany isText classOf
@@ -65,27 +48,11 @@ at x y = classNumber x * 17 + classNumber y
 
 pub letter-table : (x y : Class) → getD table (at x y) 0 ≡ letterAt x y
 unfolding letterAt
-letter-table x y = eqb→eq _ _ (at-classes (λ x y. eqb (getD table (at x y) 0) (letterAt x y)) tt x y)
+letter-table x y = decides-eqb _ _ .0 (at-classes (λ x y. eqb (getD table (at x y) 0) (letterAt x y)) refl x y)
 
 abbrev pub levels : List ℕ
 levels = 0 ∷ 3 ∷ 3 ∷ 3 ∷ 3 ∷ 3 ∷ 3 ∷ 4 ∷ 4 ∷ 4 ∷ 1 ∷ 1 ∷ 1 ∷ 1 ∷ 2 ∷ 2 ∷ 2 ∷ []
 
 pub level-table : (x : Class) → levelNumbered (getD levels (classNumber x) 0) ≡ levelOf x
 unfolding levelOf
-level-table Ctrl = refl
-level-table Non = refl
-level-table Cons = refl
-level-table Lv = refl
-level-table Fv1 = refl
-level-table Fv2 = refl
-level-table Fv3 = refl
-level-table Bv1 = refl
-level-table Bv2 = refl
-level-table Bd = refl
-level-table Tone = refl
-level-table Ad1 = refl
-level-table Ad2 = refl
-level-table Ad3 = refl
-level-table Av1 = refl
-level-table Av2 = refl
-level-table Av3 = refl
+level-table = every _ (refl, (refl, (refl, (refl, (refl, (refl, (refl, (refl, (refl, (refl, (refl, (refl, (refl, (refl, (refl, (refl, (refl, tt)))))))))))))))))

@@ -1,9 +1,10 @@
 // The class of a code (TIS 1566, clause 4.2), and which codes are text and which are marks.
 ghost use mathlib.Core.Path.{_≡_};
+ghost use Rattle.std.specs.Orderings.{Decides};
 ghost use Rattle.codes.specs.Classes.{classNumber, classLettered, classOf, howMany, isControl, isMark, isText, isUnused, listsWith};
 
 // In the standard's order, which gives each class its number, 0 to 16.
-#[derive(Clone, Copy, Debug, PartialEq, Eq)]
+#[derive(Clone, Copy, Debug)]
 pub enum Class {
     Ctrl,
     Non,
@@ -56,6 +57,17 @@ impl Class {
         self.number() == 0
     }
 }
+
+// The derived equality of so large an enum would promise nothing.
+pub impl PartialEq<Class> for Class as ClassPartialEq {
+    ghost equals = { λ x y r. Decides r (x ≡ y) };
+
+    fn eq(&self, other: &Class) -> bool {
+        self.number() == other.number()
+    }
+}
+
+pub impl Eq for Class as ClassEq {}
 
 fn class_lettered(letter: u8) -> Class
     ensures { λ r. ⌜ r ≡ classLettered letter ⌝ }
