@@ -5,7 +5,7 @@ use Prim.Native.Nat.{ℕ, _+_, _*_, _<_}
 use lib.Dec.{eqb}
 use lib.ListN.{getD}
 use Rattle.std.specs.Joined.{joined}
-use Rattle.std.proofs.shelf.Ways.{decides-eqb}
+use Rattle.std.proofs.shelf.Tests.{eqb-true}
 use Rattle.codes.specs.declared.classes.Class.{Class}
 use Rattle.codes.specs.declared.classes.Class.the-variants.{Ctrl}
 use Rattle.codes.specs.Classes.{below, classOf, classNumber, classLettered, classes, howMany, isMark, isText, listsWith}
@@ -25,11 +25,11 @@ letters = map (λ c. 65 + classNumber (classOf c)) (reverse (below 256))
 pub class-table : (k : ℕ) → k < 256 → classLettered (getD letters k 0) ≡ classOf k
 unfolding classOf
 class-table k h =
-    by-number _ _ (decides-eqb _ _ .0 (at-below 256 (λ c. eqb (classNumber (classLettered (getD letters c 0))) (classNumber (classOf c))) refl k h))
+    by-number _ _ (eqb-true _ _ (at-below 256 (λ c. eqb (classNumber (classLettered (getD letters c 0))) (classNumber (classOf c))) refl k h))
 
 pub in-one-list : (k : ℕ) → k < 256 → listsWith k ≡ 1
 unfolding listsWith
-in-one-list k h = decides-eqb _ _ .0 (at-below 256 (λ c. eqb (listsWith c) 1) refl k h)
+in-one-list k h = eqb-true _ _ (at-below 256 (λ c. eqb (listsWith c) 1) refl k h)
 
 pub text-codes : howMany isText ≡ 184
 unfolding howMany isText classOf
@@ -48,7 +48,7 @@ at x y = classNumber x * 17 + classNumber y
 
 pub letter-table : (x y : Class) → getD table (at x y) 0 ≡ letterAt x y
 unfolding letterAt
-letter-table x y = decides-eqb _ _ .0 (at-classes (λ x y. eqb (getD table (at x y) 0) (letterAt x y)) refl x y)
+letter-table x y = eqb-true _ _ (at-classes (λ x y. eqb (getD table (at x y) 0) (letterAt x y)) refl x y)
 
 abbrev pub levels : List ℕ
 levels = 0 ∷ 3 ∷ 3 ∷ 3 ∷ 3 ∷ 3 ∷ 3 ∷ 4 ∷ 4 ∷ 4 ∷ 1 ∷ 1 ∷ 1 ∷ 1 ∷ 2 ∷ 2 ∷ 2 ∷ []

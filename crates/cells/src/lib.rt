@@ -1,0 +1,2 @@
+// The division of a string of codes into runs and cells, and the value of one cell.
+pub mod division;
