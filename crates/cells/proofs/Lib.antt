@@ -3,3 +3,7 @@ pub mod Widths
 pub mod Short
 pub mod OneWay
 pub mod Texts
+pub mod OneRun
+pub mod Packed
+pub mod Same
+pub mod Count

@@ -46,7 +46,7 @@ module _ {X : Type 0} (k : X → Class) where
   more-few b [] = omega (arith, low b)
   more-few b (c ∷ s) = few (joins b (k c)) b c (more k (k c) s) refl (more-few (k c) s)
 
-  front-short : (c : X) (s : List X) → front k (c ∷ s) ≤ 3
+  pub front-short : (c : X) (s : List X) → front k (c ∷ s) ≤ 3
   front-short c s = omega (arith, front-more k c s, more-few (k c) s)
 
   into-short : (c : X) (rs : List (List X)) → length (firstRun (into c rs)) ≤ 3 → Short rs → Short (into c rs)
