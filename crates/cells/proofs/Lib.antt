@@ -7,3 +7,4 @@ pub mod OneRun
 pub mod Packed
 pub mod Same
 pub mod Count
+pub mod Spans

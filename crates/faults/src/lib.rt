@@ -1,0 +1,3 @@
+// What every refusal tells.
+pub mod fault;
+pub mod layer;
