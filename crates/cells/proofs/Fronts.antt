@@ -62,7 +62,7 @@ module _ {X : Type 0} (k : X → Class) where
   led-step true c t e = into-step c t (runs k t) e
   led-step false c t e = refl
 
-  runs-front : (c : X) (s : List X) → runs k (c ∷ s) ≡ firstRun (runs k (c ∷ s)) ∷ runs k (drop (front (c ∷ s)) (c ∷ s))
+  pub runs-front : (c : X) (s : List X) → runs k (c ∷ s) ≡ firstRun (runs k (c ∷ s)) ∷ runs k (drop (front (c ∷ s)) (c ∷ s))
   runs-front c [] = refl
   runs-front c (d ∷ s) = led-step (joins (k c) (k d)) c (d ∷ s) (runs-front d s)
 
@@ -86,6 +86,9 @@ module _ {X : Type 0} (k : X → Class) where
   more-le b [] = omega arith
   more-le b (c ∷ s) = cond-le (joins b (k c)) (more (k c) s) (length s) (more-le (k c) s)
 
+  pub front-within : (c : X) (s : List X) → (0 < front (c ∷ s)) × (front (c ∷ s) ≤ length (c ∷ s))
+  front-within c s = (omega (arith, front-more c s), omega (arith, front-more c s, more-le (k c) s))
+
   -- the run of n codes that starts at a place with a code of class b
   pub record Turn (s : List X) (at n : ℕ) (b : Class) : Type 0 where
     pub some : 0 < n
@@ -101,8 +104,8 @@ module _ {X : Type 0} (k : X → Class) where
       let l : suc (length t) ≡ length s - at = ap length e ∙ length-drop at s in
       let same : c ≡ getD s at d = ap (λ l. getD l 0 d) e ∙ getD-drop at s 0 d ∙ ap (λ i. getD s i d) (add-zero at) in
       record {
-        some = omega (arith, front-more c t);
-        within = omega (arith, front-more c t, more-le (k c) t, l);
+        some = front-within c t .0;
+        within = omega (arith, front-within c t .1, l);
         first = firstRun (runs k (c ∷ t));
         long = refl;
         cell = first-cell c t ∙ ap (λ z. not (isControl (k z))) same;

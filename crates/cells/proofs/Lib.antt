@@ -8,3 +8,4 @@ pub mod Packed
 pub mod Same
 pub mod Count
 pub mod Spans
+pub mod Leads
