@@ -3,6 +3,7 @@ ghost use mathlib.Core.Path.{_≡_};
 ghost use mathlib.Core.List.{map};
 ghost use Rattle.std.specs.Of.String.{string-bytes};
 ghost use Rattle.names.specs.Asked.{columnsOf, inRange, isDigit, levelOf, numberOf, settingsOf};
+use std::error::Error;
 use std::fmt;
 
 // The columns of the panel, 1 to 80, and the level of checking, 0 to 2.
@@ -18,6 +19,7 @@ pub enum Misuse {
     Columns,
     Level,
     Words,
+    Unreadable,
     Length,
 }
 
@@ -27,10 +29,13 @@ pub impl fmt::Display for Misuse as MisuseDisplay {
             Misuse::Columns => write!(f, "COLUMNS is a number from 1 to 80"),
             Misuse::Level => write!(f, "LEVEL is a number from 0 to 2"),
             Misuse::Words => write!(f, "at most two words are taken, COLUMNS and LEVEL"),
+            Misuse::Unreadable => write!(f, "the words cannot be read as text"),
             Misuse::Length => write!(f, "the list has more than 1,048,576 bytes"),
         }
     }
 }
+
+pub impl Error for Misuse as MisuseError {}
 
 fn is_digit(code: u8) -> bool
     ensures { λ r. ⌜ r ≡ isDigit code ⌝ }
