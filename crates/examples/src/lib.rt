@@ -46,6 +46,7 @@ mod tests {
     use names::report::report;
     use names::settings::Misuse;
     use names::settings::MisuseDebug;
+    use names::settings::MisuseDisplay;
     use names::settings::MisusePartialEq;
     use names::settings::Settings;
     use names::settings::SettingsDebug;
@@ -323,7 +324,7 @@ mod tests {
     }
 
     #[test]
-    fn refusals(rt: LibcRuntime) -> Result<(), Fail> {
+    fn refusals() -> Result<(), Fail> {
         let cases = [
             (Refusal::NotText(3), 6),
             (Refusal::NotAdmitted(3), 7),
@@ -337,13 +338,60 @@ mod tests {
             check_eq(refusal.place(), 3)?;
             check_eq(refusal.layer(), Layer::Editor)?;
         }
-        let refusal = Refusal::NotText(3);
-        let layer = Layer::Editor;
-        let sentence = format!(rt.alloc(), "{layer}: {refusal}")?;
-        check_eq(
-            sentence.as_str(),
-            "editor: the code at place 3 is no text code",
-        )
+        Ok(())
+    }
+
+    #[test]
+    fn sentences(rt: LibcRuntime) -> Result<(), Fail> {
+        let cases = [
+            (Refusal::NotText(3), "the code at place 3 is no text code"),
+            (
+                Refusal::NotAdmitted(3),
+                "the policy does not admit the code at place 3 after the one before it",
+            ),
+            (
+                Refusal::NextNotAdmitted(3),
+                "the policy does not admit the code after the cursor behind a key at place 3",
+            ),
+            (
+                Refusal::TooWide(3),
+                "the cells outnumber the columns from place 3 on",
+            ),
+            (
+                Refusal::NothingThere(3),
+                "there is nothing on that side of place 3",
+            ),
+            (
+                Refusal::WouldMeet(3),
+                "the policy does not admit the two codes that would meet at place 3",
+            ),
+        ];
+        for (refusal, expected) in cases {
+            let sentence = format!(rt.alloc(), "{refusal}")?;
+            check_eq(sentence.as_str(), expected)?;
+        }
+        let (hex, frame, editor) = (Layer::Hex, Layer::Frame, Layer::Editor);
+        let layers = format!(rt.alloc(), "{hex} {frame} {editor}")?;
+        check_eq(layers.as_str(), "hex frame editor")
+    }
+
+    #[test]
+    fn misuses(rt: LibcRuntime) -> Result<(), Fail> {
+        let cases = [
+            (Misuse::Columns, "COLUMNS is a number from 1 to 80"),
+            (Misuse::Level, "LEVEL is a number from 0 to 2"),
+            (
+                Misuse::Words,
+                "at most two words are taken, COLUMNS and LEVEL",
+            ),
+            (Misuse::Unreadable, "the words cannot be read as text"),
+            (Misuse::Length, "the list has more than 1,048,576 bytes"),
+        ];
+        for (misuse, expected) in cases {
+            let sentence = format!(rt.alloc(), "{misuse}")?;
+            check_eq(sentence.as_str(), expected)?;
+        }
+        Ok(())
     }
 
     #[test]
