@@ -1,9 +1,11 @@
 -- Runs and cells of a string, for any kind of code X that tells its class by k.
 use mathlib.Core.Bool.{Bool, true, false, cond, not}
 use mathlib.Core.List.{List, [], _∷_}
-use Prim.Native.Nat.{ℕ, _+_}
-use lib.ListN.{length}
+use mathlib.Core.Path.{_≡_}
+use Prim.Native.Nat.{ℕ, _+_, _≤_}
+use lib.ListN.{drop, getD, length, take}
 use Rattle.std.specs.declared.option.Option.{Option}
+use Rattle.std.specs.declared.option.Option.the-variants.{None, Some}
 use Rattle.std.specs.shelf.Maps.{nth}
 use Rattle.codes.specs.declared.classes.Class.{Class}
 use Rattle.codes.specs.Classes.{isControl}
@@ -49,3 +51,8 @@ spans k at (r ∷ rs) = cond (isCell k r) (record { start = at; len = length r }
 -- where cell number j lies, counted from 0, or none past the last
 abbrev pub cellAt : {X : Type 0} → (X → Class) → List X → ℕ → Option Span
 cellAt k s j = nth (spans k 0 (runs k s)) j
+
+-- a span is where the codes of cell j stand, and there is none from the width on
+abbrev pub Spanned : {X : Type 0} → (X → Class) → List X → ℕ → Option Span → Type 0
+Spanned k s j (Some x) = (x .start + x .len ≤ length s) × (take (x .len) (drop (x .start) s) ≡ getD (cells k (runs k s)) j [])
+Spanned k s j None = widthOf k s ≤ j

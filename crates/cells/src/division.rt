@@ -5,7 +5,7 @@ ghost use mathlib.Core.Path.{_≡_};
 ghost use Prim.Native.Nat.{_*_, _≤_};
 ghost use lib.ListN.{length};
 ghost use Rattle.codes.specs.Classes.{classOf, isControl};
-ghost use Rattle.cells.specs.Runs.{cellAt, firstRun, joins, runs, widthOf};
+ghost use Rattle.cells.specs.Runs.{Spanned, cellAt, firstRun, joins, runs, widthOf};
 ghost use Rattle.cells.specs.Cuttings.{AllShort, OneDivision};
 ghost use Rattle.cells.specs.Values.{allText};
 use codes::classes::Class;
@@ -72,7 +72,8 @@ pub fn width(codes: &[u8]) -> usize
 
 // Where cell number `j` lies, counted from 0; none past the last.
 pub fn cell_at(codes: &[u8], j: usize) -> Option<Span>
-    ensures { λ r. ⌜ r ≡ cellAt classOf (now (codes .entry)) j ⌝ }
+    ensures value { λ r. ⌜ r ≡ cellAt classOf (now (codes .entry)) j ⌝ }
+    ensures codes { λ r. ⌜ Spanned classOf (now (codes .entry)) j r ⌝ }
 {
     let mut cells = 0;
     let mut start = 0;

@@ -6,6 +6,7 @@ use Rattle.std.specs.shelf.Maps.{nth}
 use Rattle.codes.specs.Classes.{classOf}
 use Rattle.cells.specs.Runs.{spans}
 use Rattle.cells.proofs.Fronts.{Turn, turn, spans-at, nth-here, nth-past-one, none-left}
+use Rattle.cells.proofs.Spans.{spanned}
 use Rattle.cells.proofs.division.cell_at.Needs as need
 use Rattle.cells.proofs.division.cell_at.Needs.{After-is-control, then-not-is-control·else-cells-j, else-not-is-control}
 
@@ -15,7 +16,8 @@ here c = turn classOf _ _ _ _ 0 (c .loop-start-test .taken) (c .class-of .ensure
 pub returns-then-cells-j : need.returns-then-cells-j
 returns-then-cells-j c =
     let t = here (need.at·returns-then-cells-j c .After-is-control) in
-    sym (c .loop-start .inv .3 ∙ ap (λ l. nth l (c .args .j - c .loop-start .cells)) (spans-at classOf t false (c .if-not-is-control .ensures tt)) ∙ nth-here _ _ _ _ (c .if-cells-j .taken))
+    let value = sym (c .loop-start .inv .3 ∙ ap (λ l. nth l (c .args .j - c .loop-start .cells)) (spans-at classOf t false (c .if-not-is-control .ensures tt)) ∙ nth-here _ _ _ _ (c .if-cells-j .taken)) in
+    record { value = value; codes = spanned classOf (c .args .codes .now) (c .args .j) _ value }
 
 pub add-start : need.add-start
 add-start c = let t = here (need.at·add-start c .After-is-control) in record { fits = omega arith }
@@ -43,4 +45,5 @@ loop-start-again c =
 
 pub returns : need.returns
 returns c =
-    sym (c .loop-start .inv .3 ∙ ap (λ r. nth (spans classOf (c .loop-start .start) r) (c .args .j - c .loop-start .cells)) (none-left classOf (c .args .codes .now) (c .loop-start .start) (c .loop-start-test .left)))
+    let value = sym (c .loop-start .inv .3 ∙ ap (λ r. nth (spans classOf (c .loop-start .start) r) (c .args .j - c .loop-start .cells)) (none-left classOf (c .args .codes .now) (c .loop-start .start) (c .loop-start-test .left))) in
+    record { value = value; codes = spanned classOf (c .args .codes .now) (c .args .j) _ value }

@@ -16,12 +16,12 @@ pub returns-in-Some : need.returns-in-Some
 returns-in-Some g c =
     let s = c .args .codes .now in
     let f = g .P·Policy .admitted (c .args .policy .now) in
-    let value = checked-as f (c .args .columns) s _ _ _ (c .in-Continue-walk .ensures tt) (c .in-Some .ensures tt) refl in
+    let value = checked-as f (c .args .columns) s _ _ _ (c .in-Continue-walk .ensures tt) (c .in-Some .ensures tt .value) refl in
     record { value = value; told = told f (c .args .columns) s _ value }
 
 pub returns-in-None : need.returns-in-None
 returns-in-None g c =
     let s = c .args .codes .now in
     let f = g .P·Policy .admitted (c .args .policy .now) in
-    let value = checked-as f (c .args .columns) s _ _ _ (c .in-Continue-walk .ensures tt) (c .in-None .ensures tt) (c .width .ensures .value) in
+    let value = checked-as f (c .args .columns) s _ _ _ (c .in-Continue-walk .ensures tt) (c .in-None .ensures tt .value) (c .width .ensures .value) in
     record { value = value; told = told f (c .args .columns) s _ value }
