@@ -5,11 +5,10 @@ use mathlib.Core.Bool.{Bool, true, false, cond, _&&_}
 use mathlib.Core.List.{List, [], _∷_, _++_, map}
 use Prim.Native.Nat.{ℕ, zero, suc, _+_, _*_, _≤_, _<_}
 use native.Mathlib.Omega.{arith}
-use lib.Dec.{eqb, leb}
+use lib.Dec.{leb}
 use lib.ListN.{length}
 use Rattle.std.specs.Joined.{joined}
-use Rattle.std.specs.shelf.Lists.{All}
-use Rattle.std.proofs.shelf.Tests.{and-parts, both-ways, cases-lt, leb-true, lt-leb}
+use Rattle.std.proofs.shelf.Tests.{and-parts, both-ways, cases-lt, leb-true}
 use Rattle.std.proofs.shelf.Ways.{decides-by-and}
 use Rattle.codes.specs.Classes.{below, classOf, isText}
 use Rattle.codes.specs.Verdicts.{classVerdict, letterAt}

@@ -12,7 +12,7 @@ use Rattle.std.proofs.shelf.Lists.{at-drop-more, drop-drop, drop-all, getD-drop
 use Rattle.codes.specs.declared.classes.Class.{Class}
 use Rattle.codes.specs.Classes.{isControl}
 use Rattle.cells.specs.declared.division.Span.{Span}
-use Rattle.cells.specs.Runs.{joins, into, runs, firstRun, isCell, cells, widthOf, spans}
+use Rattle.cells.specs.Runs.{joins, into, runs, firstRun, isCell, spans}
 
 -- what `runs` gives at a code, by whether the next one joins it
 abbrev pub led : {X : Type 0} → Bool → X → List (List X) → List (List X)

@@ -9,7 +9,7 @@ use Rattle.codes.specs.declared.verdicts.Verdict.the-variants.{Accept, Compose,
 use Rattle.codes.specs.Classes.{classOf}
 use Rattle.codes.specs.Verdicts.{isCompose, verdictOf}
 use Rattle.cells.specs.Runs.{joins, into, runs}
-use Rattle.cells.specs.Cuttings.{Piece, Cut, Cutting, glued, OneDivision}
+use Rattle.cells.specs.Cuttings.{Cutting, glued, OneDivision}
 use Rattle.cells.proofs.Fronts.{led}
 use Rattle.cells.proofs.Short.{whole}
 

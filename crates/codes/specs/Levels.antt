@@ -1,5 +1,5 @@
 -- The display level of each class: none for CTRL, base for 1 to 6, below for 7 to 9, top for 10 to 13, above for 14 to 16.
-use mathlib.Core.List.{List, [], _∷_}
+use mathlib.Core.List.{[], _∷_}
 use Prim.Native.Nat.{ℕ}
 use lib.ListN.{getD}
 use Rattle.codes.specs.declared.classes.Class.{Class}

@@ -3,7 +3,6 @@ use mathlib.Core.Path.{_≡_, refl, sym, ap, _∙_}
 use mathlib.Core.Bool.{Bool, cond}
 use mathlib.Core.List.{List, [], _∷_}
 use Prim.Native.Nat.{ℕ, _+_, _-_, _*_, _<_}
-use native.Mathlib.Omega.{arith}
 use lib.Dec.{leb}
 use lib.ListN.{drop, getD, length}
 use Rattle.std.specs.declared.option.Option.the-variants.{None}
@@ -13,10 +12,6 @@ use Rattle.names.specs.Asked.{isDigit, numberFrom, numberOf}
 pub number-some : (s : List ℕ) → (length s ≡ 0 → ⊥) → numberFrom 0 s ≡ numberOf s
 number-some [] h = absurd (h refl)
 number-some (c ∷ s) h = refl
-
-pub number-none : (s : List ℕ) → length s ≡ 0 → None ≡ numberOf s
-number-none [] h = refl
-number-none (c ∷ s) h = absurd (omega arith)
 
 -- one digit more, by the two tests on it
 pub number-at : (n : ℕ) (s : List ℕ) (i m : ℕ) (t b : Bool) → i < length s → m ≡ n * 10 + (getD s i 0 - 48) → t ≡ isDigit (getD s i 0) → b ≡ leb m 255 → numberFrom n (drop i s) ≡ cond t (cond b (numberFrom m (drop (i + 1) s)) None) None

@@ -1,5 +1,4 @@
 // The report on a list of names.
-ghost use mathlib.Core.Bool.{cond};
 ghost use mathlib.Core.List.{_++_};
 ghost use mathlib.Core.Path.{_≡_};
 ghost use lib.ListN.{getD};
@@ -7,7 +6,7 @@ ghost use Rattle.std.specs.Of.String.{string-bytes};
 ghost use Rattle.std.specs.Vec.{made};
 ghost use Rattle.lines.specs.Checks.{before};
 ghost use Rattle.names.specs.Lists.{names};
-ghost use Rattle.names.specs.Texts.{cellText, cellsText, hexes, lineText, reasonText, reportText, taken};
+ghost use Rattle.names.specs.Texts.{cellText, cellsText, lineText, reasonText, reportText, taken};
 use crate::hex::Hex;
 use crate::hex::HexDisplay;
 use crate::list::FirstLine;

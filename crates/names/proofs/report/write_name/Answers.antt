@@ -1,12 +1,12 @@
 use mathlib.Core.List.{[], _∷_, _++_}
-use mathlib.Core.Path.{_≡_, sym, ap, _∙_}
+use mathlib.Core.Path.{_≡_, ap, _∙_}
 use lib.Chars.{codes}
 use Rattle.std.specs.Of.String.{string-bytes}
 use Rattle.std.specs.Results.{isOk}
 use Rattle.std.specs.Written.{decimal}
 use Rattle.std.specs.declared.result.Result.the-variants.{Err, Ok}
 use Rattle.policies.specs.Levels.{levelPairs}
-use Rattle.lines.specs.Checks.{checked, numberOf, placeOf}
+use Rattle.lines.specs.Checks.{checked}
 use Rattle.names.specs.Texts.{answer, cellsText, outcomeText, reasonText}
 use Rattle.names.proofs.Written.{ok-line, refused-line, three-pieces}
 use Rattle.names.proofs.report.write_name.Needs as need

@@ -1,11 +1,10 @@
 use mathlib.Core.Bool.{true, false}
 use mathlib.Core.Path.{refl, sym, _∙_}
-use native.Mathlib.Omega.{arith}
-use borrow.Author.Tests.{false-eqb, true-eqb}
+use borrow.Author.Tests.{false-eqb}
 use Rattle.std.proofs.shelf.Lists.{at-drop-all}
 use Rattle.std.proofs.shelf.Tests.{le-leb, lt-leb}
 use Rattle.names.specs.Asked.{numberFrom}
-use Rattle.names.proofs.Numbers.{number-at, number-none, number-some}
+use Rattle.names.proofs.Numbers.{number-at, number-some}
 use Rattle.names.proofs.settings.number_of.Needs as need
 
 pub returns-then-not-is-digit : need.returns-then-not-is-digit

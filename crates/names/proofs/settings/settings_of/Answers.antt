@@ -4,7 +4,7 @@ use borrow.Author.Tests.{ltb-false, ltb-true}
 use Rattle.std.specs.Of.String.{string-bytes}
 use Rattle.std.specs.declared.result.Result.the-variants.{Err, Ok}
 use Rattle.std.proofs.shelf.Results.{err-from-errBy}
-use Rattle.names.specs.Asked.{both, columnsOf, levelOf, settingsOf}
+use Rattle.names.specs.Asked.{both, levelOf, settingsOf}
 use Rattle.names.proofs.Words.{more-words, no-words, one-word, two-words}
 use Rattle.names.proofs.settings.settings_of.Needs as need
 
