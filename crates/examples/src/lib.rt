@@ -385,7 +385,7 @@ mod tests {
                 "at most two words are taken, COLUMNS and LEVEL",
             ),
             (Misuse::Unreadable, "the words cannot be read as text"),
-            (Misuse::Length, "the list has more than 1,048,576 bytes"),
+            (Misuse::Length, "the list has more than 1048576 bytes"),
         ];
         for (misuse, expected) in cases {
             let sentence = format!(rt.alloc(), "{misuse}")?;

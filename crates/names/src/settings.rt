@@ -30,7 +30,7 @@ pub impl fmt::Display for Misuse as MisuseDisplay {
             Misuse::Level => write!(f, "LEVEL is a number from 0 to 2"),
             Misuse::Words => write!(f, "at most two words are taken, COLUMNS and LEVEL"),
             Misuse::Unreadable => write!(f, "the words cannot be read as text"),
-            Misuse::Length => write!(f, "the list has more than 1,048,576 bytes"),
+            Misuse::Length => write!(f, "the list has more than 1048576 bytes"),
         }
     }
 }
