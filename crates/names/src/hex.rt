@@ -7,7 +7,7 @@ use std::fmt;
 
 // A code that is shown as two upper-case hexadecimal digits.
 #[derive(Clone, Copy, Debug, PartialEq, Eq)]
-pub struct Hex(pub u8);
+pub(crate) struct Hex(pub(crate) u8);
 
 fn digit(value: u8) -> char
     requires { ⌜ value < 16 ⌝ }
@@ -21,7 +21,7 @@ fn digit(value: u8) -> char
     }
 }
 
-pub impl fmt::Display for Hex as HexDisplay {
+pub(crate) impl fmt::Display for Hex as HexDisplay {
     ghost shown = { λ x. Some (hexOf (x .0)) };
 
     fn fmt<W: fmt::Write>(&self, f: &mut fmt::Formatter<W>) -> fmt::Result {

@@ -1,5 +1,5 @@
 // A list of names, checked one by one, and the report on it.
-pub mod hex;
-pub mod list;
+mod hex;
+mod list;
 pub mod report;
 pub mod settings;

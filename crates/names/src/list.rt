@@ -6,9 +6,9 @@ ghost use Rattle.names.specs.Lists.{FirstName, lineLen, withoutReturn};
 
 // The first line of a list: how many bytes its name has, and where the next line starts.
 #[derive(Clone, Copy, Debug, PartialEq, Eq)]
-pub struct FirstLine {
-    pub len: usize,
-    pub next: usize,
+pub(crate) struct FirstLine {
+    pub(crate) len: usize,
+    pub(crate) next: usize,
 }
 
 // How many bytes stand before the first 0A.
@@ -37,7 +37,7 @@ fn name_len(line: &[u8]) -> usize
 }
 
 // The first line of a list, or none at its end.
-pub fn first_line(list: &[u8]) -> Option<FirstLine>
+pub(crate) fn first_line(list: &[u8]) -> Option<FirstLine>
     ensures { λ r. ⌜ FirstName (now (list .entry)) r ⌝ }
 {
     if list.is_empty() {

@@ -1,4 +1,4 @@
--- The pairs that each level of checking admits (TIS 1566, clause 4.5).
+-- The pairs that each level of checking admits (TIS 1566, clause 4.5.2).
 use mathlib.Core.Bool.{Bool, true}
 use mathlib.Core.List.{[], _∷_}
 use Prim.Native.Nat.{ℕ}

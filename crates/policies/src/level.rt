@@ -1,4 +1,4 @@
-// The policies that check by level (TIS 1566, clause 4.5).
+// The policies that check by level (TIS 1566, clause 4.5.2).
 ghost use mathlib.Core.Path.{_≡_};
 ghost use Rattle.policies.specs.Levels.{levelNumber, levelNumbered, levelPairs};
 use crate::policy::Policy;
