@@ -1,5 +1,5 @@
 // The class of a code (TIS 1566, clause 4.2), and which codes are text and which are marks.
-ghost use Rattle.std.specs.Prelude.{◌≡◌, Decides};
+ghost use Rattle.std.specs.Prelude.{◌≡◌, ◌==◌, Decides};
 ghost use Rattle.codes.specs.Classes.{class_number, class_lettered, class_of, how_many, is_control, is_mark, is_text, is_unused, lists_with};
 ghost use Rattle.std.specs.Cmp.Rules.{comparing};
 ghost use Rattle.std.proofs.Common.{rules};
@@ -60,13 +60,16 @@ impl Class {
     }
 }
 
-// The derived equality of so large an enum would promise nothing.
+// The derived equality of so large an enum would promise less.
 impl PartialEq for Class {
-    ghost equals = { λ x y r. Decides r (x ≡ y) };
+    ghost eq = { λ x y. class_number x == class_number y };
 
     ghost laws = { Keys.partial_equiv_from_equiv (Prim.search (comparing, rules)) };
 
-    fn eq(&self, other: &Class) -> bool {
+    fn eq(&self, other: &Class) -> bool
+        ensures value { result ≡ (class_number self.now == class_number other.now) }
+        ensures decides { Decides result (self.now ≡ other.now) }
+    {
         self.number() == other.number()
     }
 }

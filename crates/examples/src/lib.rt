@@ -1,4 +1,5 @@
 // Worked examples: a list that is shown to follow from the definitions, and tests that run the code.
+#![tactic(auto)]
 ghost use Rattle.std.specs.Prelude.{◌≡◌, false, length};
 ghost use Rattle.std.specs.List.{AllByRecursion as All};
 ghost use Rattle.examples.specs.Examples.{Holds, examples};

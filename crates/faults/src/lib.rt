@@ -1,3 +1,4 @@
 // What every refusal tells.
+#![tactic(auto)]
 pub mod fault;
 pub mod layer;

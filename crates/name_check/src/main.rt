@@ -1,4 +1,5 @@
 // name_check [COLUMNS [LEVEL]]: reads a list of names, and writes for each whether a panel takes it, or why not and where.
+#![tactic(auto)]
 use names::report::report;
 use names::settings::{Misuse, settings_of};
 use std::env;

@@ -1,4 +1,5 @@
 // A list of names, checked one by one, and the report on it.
+#![tactic(auto)]
 mod hex;
 mod list;
 pub mod report;

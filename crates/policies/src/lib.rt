@@ -1,4 +1,5 @@
 // Which code may stand directly after which.
+#![tactic(auto)]
 pub mod level;
 pub mod policy;
 pub mod tag;

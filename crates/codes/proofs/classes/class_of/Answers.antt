@@ -7,6 +7,6 @@ pub returns : goal.returns
 unfolding class_of
 returns c =
     record {
-      value = c.class-lettered.ensures ∙ class_table c.args.code (omega arith);
+      value = c.class_lettered.ensures ∙ class_table c.args.code (omega arith);
       single = in_one_list c.args.code (omega arith);
     }

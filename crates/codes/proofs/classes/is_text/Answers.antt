@@ -3,10 +3,10 @@ use Rattle.codes.specs.Classes.{is_text}
 use Rattle.codes.proofs.Tables.{text_codes}
 use Rattle.codes.proofs.classes.is_text.Goals as goal
 
-pub returns-then-not-is-control : goal.returns-then-not-is-control
+pub returns-then-not-is_control : goal.returns-then-not-is_control
 unfolding is_text
-returns-then-not-is-control c = record { value = search rules; count = text_codes }
+returns-then-not-is_control c = record { value = search rules; count = text_codes }
 
-pub returns-else-not-is-control : goal.returns-else-not-is-control
+pub returns-else-not-is_control : goal.returns-else-not-is_control
 unfolding is_text
-returns-else-not-is-control c = record { value = search rules; count = text_codes }
+returns-else-not-is_control c = record { value = search rules; count = text_codes }

@@ -4,4 +4,4 @@ use Rattle.codes.proofs.Tables.{levels, level_table}
 use Rattle.codes.proofs.levels.level_of.Goals as goal
 
 pub returns : goal.returns
-returns c = c.level-numbered.ensures ∙ (λ i. level_numbered (get_or levels (c.number.ensures i) 0)) ∙ level_table c.args.class
+returns c = c.level_numbered.ensures ∙ (λ i. level_numbered (get_or levels (c.number.ensures i) 0)) ∙ level_table c.args.class

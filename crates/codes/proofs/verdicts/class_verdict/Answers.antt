@@ -4,4 +4,4 @@ use Rattle.codes.proofs.verdicts.class_verdict.Goals as goal
 
 pub returns : goal.returns
 unfolding class_verdict
-returns c = c.verdict-lettered.ensures ∙ ap verdict_lettered c.letter-at.ensures
+returns c = c.verdict_lettered.ensures ∙ ap verdict_lettered c.letter_at.ensures

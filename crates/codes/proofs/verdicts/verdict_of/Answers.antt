@@ -6,6 +6,6 @@ pub returns : goal.returns
 unfolding verdict_of times_in_table
 returns c =
     record {
-      value = c.class-verdict.ensures ∙ (λ i. class_verdict (c.class-of.ensures.value i) (c.class-of-2.ensures.value i));
+      value = c.class_verdict.ensures ∙ (λ i. class_verdict (c.class_of.ensures.value i) (c.class_of-2.ensures.value i));
       counts = record { accept = refl; compose = refl; strict = refl; basic = refl; hidden = refl };
     }
