@@ -3,7 +3,7 @@ use Rattle.std.proofs.Common.{◌≡◌, ℕ, zero, suc, ◌+◌, ◌*◌, ◌<�
 use Rattle.std.specs.List.{flat_map}
 use Rattle.std.proofs.lemmas.Bool.{and_parts, both_ways, cases_lt, leb-true}
 use Rattle.std.proofs.ByRecursion.{Decides-by_and}
-use Rattle.codes.specs.Classes.{below, class_of, is_text}
+use Rattle.codes.specs.Classes.{class_of, is_text}
 use Rattle.codes.specs.Verdicts.{class_verdict, letter_at}
 use Rattle.codes.proofs.Bytes.{text_below_256}
 use Rattle.cells.specs.Runs.{joins}

@@ -1,11 +1,13 @@
 // What a cell holds.
-ghost use Rattle.std.specs.Prelude.{◌≡◌, true, [], length, if◌then◌else◌, Some, None, Decides};
+ghost use Rattle.std.specs.Prelude.{◌≡◌, true, [], length, if◌then◌else◌, Some, None, Decides, nat_eq};
+ghost use Rattle.std.specs.Ordering.{on};
+ghost use Rattle.std.specs.Cmp.Lexicographic.{pointwise};
 ghost use Rattle.std.specs.Option.{option_map};
 ghost use Rattle.cells.specs.declared.cell.Cell.{Cell};
 ghost use Rattle.cells.specs.Contents.{Exactly, held};
 ghost use Rattle.cells.specs.Values.{all_text, lawful};
 ghost use Rattle.std.specs.Cmp.Rules.{comparing};
-ghost use Rattle.std.proofs.Common.{rules, arith};
+ghost use Rattle.std.proofs.Common.{rules};
 ghost use Rattle.std.specs.Cmp as Keys;
 
 use crate::cell::Cell;
@@ -82,15 +84,18 @@ impl Cell {
 }
 
 impl PartialEq for Cell {
-    ghost equals = { λ x y r. Decides r (x ≡ y) };
+    ghost eq = { on (λ x. x.places) (pointwise nat_eq) };
 
-    ghost laws = { Keys.partial_equiv_from_equiv (first_of (Prim.search (comparing, rules), Prim.grind (arith, Self.row.coded.inj))) };
+    ghost laws = { Keys.partial_equiv_from_equiv (Prim.search (comparing, rules)) };
 
-    fn eq(&self, other: &Cell) -> bool {
+    fn eq(&self, other: &Cell) -> bool
+        ensures value { result ≡ pointwise nat_eq self.now.places other.now.places }
+        ensures decides { Decides result (self.now ≡ other.now) }
+    {
         self.places == other.places
     }
 }
 
 impl Eq for Cell {
-    ghost laws = { first_of (Prim.search (comparing, rules), Prim.grind (arith, Self.row.coded.inj)) };
+    ghost laws = { Prim.search (comparing, rules) };
 }

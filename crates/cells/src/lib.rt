@@ -1,5 +1,6 @@
 // The division of a string of codes into runs and cells, and the value of one cell.
 #![tactic(auto)]
+
 pub mod cell;
 pub mod contents;
 pub mod division;

@@ -1,4 +1,5 @@
 // What every refusal tells.
 #![tactic(auto)]
+
 pub mod fault;
 pub mod layer;

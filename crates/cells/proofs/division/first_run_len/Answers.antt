@@ -9,25 +9,25 @@ use Rattle.cells.proofs.division.first_run_len.Goals as goal
 abbrev rest : List ℕ → List ℕ
 rest s = take (length s - 1) (drop 1 s)
 
-pub returns-in-default : goal.returns-in-default
-returns-in-default c =
+pub returns-in_default : goal.returns-in_default
+returns-in_default c =
     record { value = front_none class_of c.args.codes.now (omega (arith, ltb-true, ltb-false)); short = runs_short class_of c.args.codes.now }
 
 pub loop-i-init : goal.loop-i-init
 loop-i-init c =
     let s = c.args.codes.now in
-    omega (arith, front_first class_of 0 s (omega (arith, ltb-true, ltb-false)), ap (λ b. more class_of b (rest s)) c.class-of-before.ensures.value)
+    omega (arith, front_first class_of 0 s (omega (arith, ltb-true, ltb-false)), ap (λ b. more class_of b (rest s)) c.class_of-before.ensures.value)
 
 pub returns-then-not-joined : goal.returns-then-not-joined
 returns-then-not-joined c =
     let s = c.args.codes.now in
-    let next = more_at class_of c.loop-i.before (rest s) c.loop-i.i 0 _ false c.loop-i-test.true c.class-of-class.ensures.value c.if-not-joined.ensures in
+    let next = more_at class_of c.loop-i.before (rest s) c.loop-i.i 0 _ false c.loop-i-test.true c.class_of-class.ensures.value c.if-not-joined.ensures in
     record { value = omega (arith, c.loop-i.invariant, next); short = runs_short class_of s }
 
 pub loop-i-preserved : goal.loop-i-preserved
 loop-i-preserved c =
     let s = c.args.codes.now in
-    let next = more_at class_of c.loop-i.before (rest s) c.loop-i.i 0 _ true c.loop-i-test.true c.class-of-class.ensures.value c.if-not-joined.ensures in
+    let next = more_at class_of c.loop-i.before (rest s) c.loop-i.i 0 _ true c.loop-i-test.true c.class_of-class.ensures.value c.if-not-joined.ensures in
     omega (arith, c.loop-i.invariant, next)
 
 pub returns : goal.returns

@@ -5,4 +5,4 @@ use Rattle.cells.proofs.division.joined.Goals as goal
 
 pub returns : goal.returns
 unfolding joins
-returns c = c.is-compose.ensures ∙ ap is_compose c.class-verdict.ensures
+returns c = c.is_compose.ensures ∙ ap is_compose c.class_verdict.ensures

@@ -12,10 +12,10 @@ loop-line-preserved c =
     let s = c.loop-line.rest.now in
     let line = c.in-Some.line in
     let leads = c.in-Some.ensures in
-    let wrote = c.in-ok-write-name.ensures in
+    let wrote = c.in_ok-write_name.ensures in
     let left = take_rest s line.next in
     let long = ap length left ∙ length-drop line.next s in
-    let flag = c.in-ok-write-name.field-0 in
+    let flag = c.in_ok-write_name.field-0 in
     let whole : line.len ≡ line.len - 0 = omega arith in
     let first = leads.first ∙ ap (λ m. take m s ∷ names (drop line.next s)) whole in
     let count : c.if-branch.ok ≡ c.loop-line.ok + cond flag 1 0 =
@@ -30,5 +30,5 @@ loop-line-preserved c =
     ] in (
       more,
       omega (arith, long, leads.some, leads.within),
-      ap (λ l. string_bytes c.write-name.new.text ++ report_text st (c.loop-line.number + 1) c.if-branch.ok (names l)) left ∙ one_more st c.loop-line.number c.loop-line.ok c.if-branch.ok (string_bytes c.loop-line.text) _ s _ _ flag first wrote.0 wrote.1 count ∙ c.loop-line.invariant.2,
+      ap (λ l. string_bytes c.write_name.new.text ++ report_text st (c.loop-line.number + 1) c.if-branch.ok (names l)) left ∙ one_more st c.loop-line.number c.loop-line.ok c.if-branch.ok (string_bytes c.loop-line.text) _ s _ _ flag first wrote.0 wrote.1 count ∙ c.loop-line.invariant.2,
     )

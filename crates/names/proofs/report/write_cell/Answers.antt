@@ -9,7 +9,7 @@ loop-code-preserved c =
     let s = c.args.codes.now in
     let i = c.loop-code.code-index in
     let so_far = string_bytes c.loop-code.text in
-    onward _ so_far _ _ c.in-ok-write-2.ensures.bytes ∙ ap (λ l. so_far ++ l) (sym (at_drop_more hexes s i 0 c.loop-code-test.true)) ∙ c.loop-code.invariant
+    onward _ so_far _ _ c.in_ok-write-2.ensures.bytes ∙ ap (λ l. so_far ++ l) (sym (at_drop_more hexes s i 0 c.loop-code-test.true)) ∙ c.loop-code.invariant
 
 pub returns : goal.returns
 returns c =
@@ -17,4 +17,4 @@ returns c =
     let so_far = string_bytes c.loop-code.text in
     let all : so_far ≡ string_bytes c.write.new.self ++ hexes s =
     sym (append-nil so_far) ∙ ap (λ l. so_far ++ l) (sym (at_drop_all hexes s c.loop-code.code-index c.loop-code-test.false)) ∙ c.loop-code.invariant in
-    three_pieces (string_bytes c.args.text.now) (string_bytes c.write.new.self) so_far _ (codes " [") (hexes s) (codes "]") c.in-ok-write.ensures.bytes all c.in-ok-write-3.ensures.bytes
+    three_pieces (string_bytes c.args.text.now) (string_bytes c.write.new.self) so_far _ (codes " [") (hexes s) (codes "]") c.in_ok-write.ensures.bytes all c.in_ok-write-3.ensures.bytes

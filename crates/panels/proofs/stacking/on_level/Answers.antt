@@ -7,11 +7,11 @@ use Rattle.panels.proofs.stacking.on_level.Goals as goal
 
 pub returns-then-eq : goal.returns-then-eq
 returns-then-eq c =
-    sym (c.loop-code.invariant ∙ level_at c.args.level c.args.codes.now c.loop-code.code-index c.loop-code-test.true c.class-of.ensures.value c.level-of.ensures (alike _ _ c.if-eq.ensures))
+    sym (c.loop-code.invariant ∙ level_at c.args.level c.args.codes.now c.loop-code.code-index c.loop-code-test.true c.class_of.ensures.value c.level_of.ensures (alike _ _ c.if-eq.ensures))
 
 pub loop-code-preserved : goal.loop-code-preserved
 loop-code-preserved c =
-    c.loop-code.invariant ∙ level_at c.args.level c.args.codes.now c.loop-code.code-index c.loop-code-test.true c.class-of.ensures.value c.level-of.ensures (unlike _ _ c.if-eq.ensures)
+    c.loop-code.invariant ∙ level_at c.args.level c.args.codes.now c.loop-code.code-index c.loop-code-test.true c.class_of.ensures.value c.level_of.ensures (unlike _ _ c.if-eq.ensures)
 
 pub returns : goal.returns
 returns c = sym (c.loop-code.invariant ∙ at_drop_all (on_level c.args.level) c.args.codes.now c.loop-code.code-index c.loop-code-test.false)

@@ -4,9 +4,9 @@ use Rattle.cells.proofs.Packed.{filled_first, lawful_short}
 use Rattle.cells.proofs.Same.{by_codes}
 use Rattle.cells.proofs.cell.Cell.codes.Goals as goal
 
-pub slice-bounds-result-end : goal.slice-bounds-result-end
+pub slice_bounds-result-end : goal.slice_bounds-result-end
 unfolding held
-slice-bounds-result-end c = omega (arith, c.len-len.ensures, lawful_short (held c.args.self.now) c.args.self.now.legal)
+slice_bounds-result-end c = omega (arith, c.len-len.ensures, lawful_short (held c.args.self.now) c.args.self.now.legal)
 
 pub returns : goal.returns
 unfolding held

@@ -19,15 +19,18 @@ stored c =
     ]
 
 filled_stored : (c : Joined-codes-lt1) → filled c.if-codes-lt1.places ≡ c.args.codes.now
-filled_stored c = ap filled (stored c) ∙ filled_padded _ (sym c.if-not-is-lawful.ensures)
+filled_stored c = ap filled (stored c) ∙ filled_padded _ (sym c.if-not-is_lawful.ensures)
 
-pub returns-then-not-is-lawful : goal.returns-then-not-is-lawful
-returns-then-not-is-lawful c = let no_cell = sym c.if-not-is-lawful.ensures in record { value = rw no_cell; count = cell_values }
+pub returns-then-not-is_lawful : goal.returns-then-not-is_lawful
+returns-then-not-is_lawful c = let no_cell = sym c.if-not-is_lawful.ensures in record { value = rw no_cell; count = cell_values }
 
-pub invariant-of-result : goal.invariant-of-result
-invariant-of-result c =
-    (ap lawful (filled_stored c) ∙ sym c.if-not-is-lawful.ensures, (stored c ∙ ap padded (sym (filled_stored c)), tt))
+pub invariant_of-result : goal.invariant_of-result
+invariant_of-result c =
+    record {
+      legal = ap lawful (filled_stored c) ∙ sym c.if-not-is_lawful.ensures;
+      packed = stored c ∙ ap padded (sym (filled_stored c));
+    }
 
 pub returns : goal.returns
 unfolding held
-returns c = let a-cell = sym c.if-not-is-lawful.ensures in record { value = ap Some (filled_stored (goal.at.returns c).Joined-codes-lt1) ∙ sym (cond-true _ _ _ a-cell); count = cell_values }
+returns c = let a-cell = sym c.if-not-is_lawful.ensures in record { value = ap Some (filled_stored (goal.at.returns c).Joined-codes-lt1) ∙ sym (cond-true _ _ _ a-cell); count = cell_values }

@@ -5,6 +5,6 @@ use Rattle.cells.specs.declared.cell.Cell.{Cell}
 use Rattle.cells.proofs.Same.{by_places}
 use Rattle.cells.proofs.contents.CellPartialEq.eq.Goals as goal
 
-pub returns : goal.returns
-returns c =
+pub returns-clause-decides : goal.returns-clause-decides
+returns-clause-decides c =
     Decides-like _ (by_places c.args.self.now c.args.other.now) (ap (λ (x : Cell). x.places)) (slice_eq-Decides Decides-eqb _ _ _ c.eq.ensures)

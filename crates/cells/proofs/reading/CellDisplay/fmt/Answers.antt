@@ -23,10 +23,10 @@ loop-code-preserved g c = λ plain.
     let i = c.loop-code.code-index in
     let so_far = c.loop-code.invariant plain in
     subst (λ (t : List ℕ). HasWritten g.W.Write.write_str_gives c.args.f.now t c.write-in-loop-code.new.self) (hexes_more s i c.loop-code-test.true)
-    (put_more g.W.Write.write_str_gives c.args.f.now c.loop-code.f c.write-in-loop-code.new.self (hexes (take i s)) (hex_of (get_or s i 0)) so_far (c.in-ok-write.ensures.shows so_far.plain (refl {a = true})))
+    (put_more g.W.Write.write_str_gives c.args.f.now c.loop-code.f c.write-in-loop-code.new.self (hexes (take i s)) (hex_of (get_or s i 0)) so_far (c.in_ok-write.ensures.writes so_far.plain (refl {a = true})))
 
 pub returns-clause-writes : goal.returns-clause-writes
 returns-clause-writes g c = λ plain ok.
     let s = c.codes-codes.result.now in
     subst (λ (t : List ℕ). HasWritten g.W.Write.write_str_gives c.args.f.now t c.loop-code.f)
-    (ap hexes (take_all c.loop-code.code-index s c.loop-code-test.false) ∙ not_blank s _ c.codes-codes.ensures.value c.if-is-empty.ensures) (c.loop-code.invariant plain)
+    (ap hexes (take_all c.loop-code.code-index s c.loop-code-test.false) ∙ not_blank s _ c.codes-codes.ensures.value c.if-is_empty.ensures) (c.loop-code.invariant plain)

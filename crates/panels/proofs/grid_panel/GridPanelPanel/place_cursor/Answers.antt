@@ -8,7 +8,7 @@ pub returns : goal.returns
 unfolding grid_screen
 returns c =
     let p = c.args.self.now in
-    let e = c.place-cursor.ensures in
+    let e = c.place_cursor.ensures in
     record {
       answer = e.answer;
       panel = placed_either (λ w. map held (take w p.table.cells)) p.ruler.columns p.ruler.cursor c.args.place _ e.answer e.columns e.cursor;

@@ -30,13 +30,13 @@ loop-cell-preserved g c =
     let j = c.loop-cell.j in
     let cursor = c.cursor-cursor.result in
     let x = held c.in-Some.cell in
-    let bar-here = c.bar-at-bar.result in
+    let bar-here = c.bar_at-bar.result in
     let lt = there g c in (
       omega arith,
       λ plain.
           let so_far = c.loop-cell.invariant.1 plain in
-          drawn_more g.W.Write.write_str_gives c.write.new.self {rest = columns_text cursor j (drop j s.row)} (encode bar-here ++ cell_text x) (columns_text cursor (j + 1) (drop (j + 1) s.row)) so_far (c.in-ok-write.ensures.shows so_far.put.plain (refl {a = true}))
-          (columns_more cursor j s.row x c.in-Some.ensures ∙ ap (λ t. (t ++ cell_text x) ++ columns_text cursor (j + 1) (drop (j + 1) s.row)) (sym (encode_bar bar-here (eqb j cursor) c.bar-at-bar.ensures))),
+          drawn_more g.W.Write.write_str_gives c.write.new.self {rest = columns_text cursor j (drop j s.row)} (encode bar-here ++ cell_text x) (columns_text cursor (j + 1) (drop (j + 1) s.row)) so_far (c.in_ok-write.ensures.writes so_far.put.plain (refl {a = true}))
+          (columns_more cursor j s.row x c.in-Some.ensures ∙ ap (λ t. (t ++ cell_text x) ++ columns_text cursor (j + 1) (drop (j + 1) s.row)) (sym (encode_bar bar-here (eqb j cursor) c.bar_at-bar.ensures))),
     )
 
 pub returns-clause-writes : goal.returns-clause-writes
@@ -44,7 +44,7 @@ returns-clause-writes g c = λ plain ok.
     let s : Screen = g.N.Panel.screen c.args.self.now.panel.now in
     let j = c.loop-cell.j in
     let cursor = c.cursor-cursor.result in
-    let bar-last = c.bar-at-bar-2.result in
+    let bar-last = c.bar_at-bar-2.result in
     let so_far = c.loop-cell.invariant.1 plain in
     drawn_last g.W.Write.write_str_gives c.write-2.new.self {rest = columns_text cursor j (drop j s.row)} (encode bar-last) so_far (c.write-2.ensures.writes so_far.put.plain ok)
-    (columns_end cursor j s.row c.in-default.ensures ∙ sym (encode_bar bar-last (eqb j cursor) c.bar-at-bar-2.ensures))
+    (columns_end cursor j s.row c.in_default.ensures ∙ sym (encode_bar bar-last (eqb j cursor) c.bar_at-bar-2.ensures))

@@ -3,8 +3,8 @@ use Rattle.panels.specs.Stacks.{Proper}
 use Rattle.panels.proofs.Stacked.{empty_proper, empty_rows}
 use Rattle.panels.proofs.row.Rows.empty.Goals as goal
 
-pub invariant-of-result : goal.invariant-of-result
-invariant-of-result c = ((refl, refl, refl, refl), ((λ j. subst Proper (sym (empty_rows j)) empty_proper), tt))
+pub invariant_of-result : goal.invariant_of-result
+invariant_of-result c = ((refl, refl, refl, refl), ((λ j. subst Proper (sym (empty_rows j)) empty_proper), tt))
 
 pub returns : goal.returns
 returns c = empty_rows

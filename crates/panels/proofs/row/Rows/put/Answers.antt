@@ -3,8 +3,8 @@ use Rattle.panels.specs.Stacks.{Proper}
 use Rattle.panels.proofs.Stacked.{cell_proper, changed_here, changed_proper, changed_there}
 use Rattle.panels.proofs.row.Rows.put.Goals as goal
 
-pub invariant-of-self : goal.invariant-of-self
-invariant-of-self c =
+pub invariant_of-self : goal.invariant_of-self
+invariant_of-self c =
     let p = c.args.self.now in
     let j = c.args.j in
     let x = c.of-top.result in

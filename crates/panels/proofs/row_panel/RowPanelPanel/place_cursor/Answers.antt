@@ -9,7 +9,7 @@ pub returns : goal.returns
 unfolding row_screen
 returns c =
     let p = c.args.self.now in
-    let e = c.place-cursor.ensures in
+    let e = c.place_cursor.ensures in
     record {
       answer = e.answer;
       panel = placed_either (λ w. map (λ j. gathered (stack_at p.rows j)) (range_with_len 0 w)) p.ruler.columns p.ruler.cursor c.args.place _ e.answer e.columns e.cursor;

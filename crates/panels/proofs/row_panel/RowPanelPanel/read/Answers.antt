@@ -12,4 +12,4 @@ returns c =
     let p = c.args.self.now in
     let cell : ℕ → List ℕ = λ j. gathered (stack_at p.rows j) in
     let legal = all_columns cell (λ s. lawful s ≡ true) 0 p.ruler.columns (λ j. (p.rows.proper j).0) in
-    read_again _ c.cell.result _ c.cell.ensures c.in-ok-stack.ensures (λ s e. at_nth (λ t. lawful t ≡ true) _ c.args.j s legal e)
+    read_again _ c.cell.result _ c.cell.ensures c.in_ok-stack.ensures (λ s e. at_nth (λ t. lawful t ≡ true) _ c.args.j s legal e)

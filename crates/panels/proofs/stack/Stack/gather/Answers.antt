@@ -8,8 +8,8 @@ use Rattle.panels.proofs.stack.Stack.gather.Goals.{then-code-ne0, else-code-ne0}
 pub bounds-codes-len : goal.bounds-codes-len
 bounds-codes-len c = omega (arith, c.loop-code.invariant.0)
 
-pub overflow-add-len : goal.overflow-add-len
-overflow-add-len c = let le = c.loop-code.invariant.0 in search rules
+pub overflow_add-len : goal.overflow_add-len
+overflow_add-len c = let le = c.loop-code.invariant.0 in search rules
 
 pub loop-code-preserved : goal.loop-code-preserved
 loop-code-preserved c =

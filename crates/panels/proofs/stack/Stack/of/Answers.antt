@@ -10,7 +10,7 @@ use Rattle.panels.proofs.stack.Stack.of.Goals as goal
 pub returns : goal.returns
 returns c =
     let x = c.args.cell.now in
-    let value = stack_rows c.codes-codes.ensures.value c.on-level.ensures c.on-level-2.ensures c.on-level-3.ensures c.on-level-4.ensures in
+    let value = stack_rows c.codes-codes.ensures.value c.on_level.ensures c.on_level-2.ensures c.on_level-3.ensures c.on_level-4.ensures in
     record {
       value = value;
       each = λ code m. ap (λ t. in_row t (level_of (class_of code))) value ∙ each_in_row code (held x) (held_lawful x) m;

@@ -25,5 +25,5 @@ pub returns-in-Accept : goal.returns-in-Accept
 unfolding level_pairs
 returns-in-Accept c =
     let level = c.args.self.now.level in
-    let value = c.verdict-of.ensures.value in
+    let value = c.verdict_of.ensures.value in
     ⊎_elim (passed level refl value) (⊎_elim (passed level refl value) (passed level refl value)) c.in-Accept.is
