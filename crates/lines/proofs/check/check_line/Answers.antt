@@ -7,7 +7,7 @@ pub returns-in_err-walk : goal.returns-in_err-walk
 returns-in_err-walk g c =
     let s = c.args.codes.now in
     let f = g.P.Policy.admitted c.args.policy.now in
-    let exit = err_from_is_err_and c.from-residual.result c.from-residual.ensures.1 in
+    let exit = err_from_is_err_and c.from_residual.result c.from_residual.ensures.1 in
     let value = exit.1 ∙ ap Err exit.2 ∙ checked_as f c.args.columns s _ _ _ c.in_err-walk.ensures refl refl in
     record { value = value; told = told f c.args.columns s _ value }
 
