@@ -1,6 +1,6 @@
 -- No run has more than three codes: along a run the classes climb, and there are three steps.
 use Rattle.std.proofs.Common.{◌≡◌, ℕ, suc, ◌+◌, ◌*◌, ◌<◌, ◌≤◌, Bool, true, false, cond, not, ◌||◌, ltb, leb, List, [], ◌∷◌, length, refl, ap, ◌∙◌, arith, length-append}
-use Rattle.std.specs.List.{flat_map, AllByRecursion as All}
+use Rattle.std.specs.List.{flat_map, AllByRecursion}
 use Rattle.std.proofs.lemmas.Bool.{leb-true, ltb-true}
 use Rattle.codes.specs.declared.classes.Class.{Class}
 use Rattle.codes.specs.Classes.{class_number, is_control}
@@ -24,7 +24,7 @@ low x = leb-true (climb x) 2 (at_class (λ a. leb (climb a) 2) refl x)
 
 -- the length of each run is bounded
 abbrev pub Short : {X : Type 0} → List (List X) → Type 0
-Short rs = All (λ r. length r ≤ 3) rs
+Short rs = AllByRecursion (λ r. length r ≤ 3) rs
 
 module _ {X : Type 0} (k : X → Class) where
   few : (j : Bool) (b : Class) (c : X) (n : ℕ) → joins b (k c) ≡ j → n + climb (k c) ≤ 2 → cond j (suc n) 0 + climb b ≤ 2
@@ -52,20 +52,20 @@ module _ {X : Type 0} (k : X → Class) where
   runs_short (c ∷ d ∷ s) = led_short (joins (k c) (k d)) c (runs k (d ∷ s)) (front_short c (d ∷ s)) (runs_short (d ∷ s))
 
   -- a string with no control code has at most three codes for each cell
-  into_cells : (c : X) (rs : List (List X)) → is_control (k c) ≡ false → All (λ r. is_cell k r ≡ true) rs → All (λ r. is_cell k r ≡ true) (into c rs)
+  into_cells : (c : X) (rs : List (List X)) → is_control (k c) ≡ false → AllByRecursion (λ r. is_cell k r ≡ true) rs → AllByRecursion (λ r. is_cell k r ≡ true) (into c rs)
   into_cells c [] e h = (ap not e, tt)
   into_cells c (r ∷ rs) e h = (ap not e, h.1)
 
-  led_cells : (b : Bool) (c : X) (rs : List (List X)) → is_control (k c) ≡ false → All (λ r. is_cell k r ≡ true) rs → All (λ r. is_cell k r ≡ true) (led b c rs)
+  led_cells : (b : Bool) (c : X) (rs : List (List X)) → is_control (k c) ≡ false → AllByRecursion (λ r. is_cell k r ≡ true) rs → AllByRecursion (λ r. is_cell k r ≡ true) (led b c rs)
   led_cells true c rs e h = into_cells c rs e h
   led_cells false c rs e h = (ap not e, h)
 
-  all_cells : (s : List X) → All (λ c. is_control (k c) ≡ false) s → All (λ r. is_cell k r ≡ true) (runs k s)
+  all_cells : (s : List X) → AllByRecursion (λ c. is_control (k c) ≡ false) s → AllByRecursion (λ r. is_cell k r ≡ true) (runs k s)
   all_cells [] h = tt
   all_cells (c ∷ []) h = (ap not h.0, tt)
   all_cells (c ∷ d ∷ s) h = led_cells (joins (k c) (k d)) c (runs k (d ∷ s)) h.0 (all_cells (d ∷ s) h.1)
 
-  glued_short : (rs : List (List X)) → Short rs → All (λ r. is_cell k r ≡ true) rs → length (flat_map (λ r. r) rs) ≤ 3 * length (cells k rs)
+  glued_short : (rs : List (List X)) → Short rs → AllByRecursion (λ r. is_cell k r ≡ true) rs → length (flat_map (λ r. r) rs) ≤ 3 * length (cells k rs)
   glued_short [] h e = omega arith
   glued_short (r ∷ rs) h e =
       let is = e.0 in
@@ -86,5 +86,5 @@ module _ {X : Type 0} (k : X → Class) where
   whole (c ∷ []) = refl
   whole (c ∷ d ∷ s) = led_whole (joins (k c) (k d)) c (runs k (d ∷ s)) ∙ ap (λ l. c ∷ l) (whole (d ∷ s))
 
-  pub three_to_a_cell : (s : List X) → All (λ c. is_control (k c) ≡ false) s → length s ≤ 3 * width_of k s
+  pub three_to_a_cell : (s : List X) → AllByRecursion (λ c. is_control (k c) ≡ false) s → length s ≤ 3 * width_of k s
   three_to_a_cell s h = omega (arith, ap length (whole s), glued_short (runs k s) (runs_short s) (all_cells s h))

@@ -1,6 +1,6 @@
 -- Cells by the codes that they hold, and how many there are.
 use Rattle.std.specs.Prelude.{◌≡◌, ℕ, ◌⊎◌, List, [], ◌∷◌, length}
-use Rattle.std.specs.List.{AllByRecursion as All}
+use Rattle.std.specs.List.{AllByRecursion}
 use Rattle.cells.specs.declared.cell.Cell.{Cell}
 use Rattle.cells.specs.Values.{filled}
 
@@ -19,6 +19,6 @@ Distinct (x ∷ xs) = (Member x xs → ⊥) × Distinct xs
 pub record Exactly (n : ℕ) (P : List ℕ → Type 0) : Type 0 where
   pub strings : List (List ℕ)
   pub count : length strings ≡ n
-  pub each : All P strings
+  pub each : AllByRecursion P strings
   pub every : (s : List ℕ) → P s → Member s strings
   pub once : Distinct strings

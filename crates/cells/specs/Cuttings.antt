@@ -1,6 +1,6 @@
 -- The one way to divide a string, told by the verdicts on neighbours alone.
 use Rattle.std.specs.Prelude.{◌≡◌, ℕ, ◌≤◌, List, [], ◌∷◌, length}
-use Rattle.std.specs.List.{flat_map, AllByRecursion as All}
+use Rattle.std.specs.List.{flat_map, AllByRecursion}
 use Rattle.codes.specs.declared.verdicts.Verdict.TheVariants.{Compose}
 use Rattle.codes.specs.Classes.{class_of}
 use Rattle.codes.specs.Verdicts.{verdict_of}
@@ -35,4 +35,4 @@ pub record OneDivision (s : List ℕ) : Type 0 where
   pub only : (ps : List (List ℕ)) → Cutting ps → glued ps ≡ s → ps ≡ runs class_of s
 
 abbrev pub AllShort : List (List ℕ) → Type 0
-AllShort rs = All (λ r. length r ≤ 3) rs
+AllShort rs = AllByRecursion (λ r. length r ≤ 3) rs

@@ -1,13 +1,13 @@
 -- What is computed at each class, or at each number below a bound, holds at any.
 use Rattle.std.proofs.Common.{◌≡◌, ℕ, zero, suc, ◌<◌, Bool, true, false, not, ◌&&◌, ◌||◌, List, [], ◌∷◌, refl}
-use Rattle.std.specs.List.{AllByRecursion as All}
+use Rattle.std.specs.List.{AllByRecursion}
 use Rattle.std.proofs.lemmas.Bool.Decides.{Decides-below_and}
 use Rattle.std.proofs.ByRecursion.{Decides-by_and}
 use Rattle.codes.specs.declared.classes.Class.{Class}
 use Rattle.codes.specs.declared.classes.Class.TheVariants.{Ctrl, Non, Cons, Lv, Fv1, Fv2, Fv3, Bv1, Bv2, Bd, Tone, Ad1, Ad2, Ad3, Av1, Av2, Av3}
 use Rattle.codes.specs.Classes.{classes}
 
-pub every : (P : Class → Type 0) → All P classes → (c : Class) → P c
+pub every : (P : Class → Type 0) → AllByRecursion P classes → (c : Class) → P c
 every P h Ctrl = h.0
 every P h Non = h.1.0
 every P h Cons = h.1.1.0

@@ -1,7 +1,7 @@
 // Worked examples: a list that is shown to follow from the definitions, and tests that run the code.
 #![tactic(auto)]
 ghost use Rattle.std.specs.Prelude.{◌≡◌, false, length};
-ghost use Rattle.std.specs.List.{AllByRecursion as All};
+ghost use Rattle.std.specs.List.{AllByRecursion};
 ghost use Rattle.examples.specs.Examples.{Holds, examples};
 
 #[cfg(test)]
@@ -10,7 +10,7 @@ mod on_panels;
 // How many examples the list has. Each of them follows from the definitions.
 pub fn worked_examples() -> usize
     ensures count { result ≡ length examples }
-    ensures hold { All Holds examples }
+    ensures hold { AllByRecursion Holds examples }
 {
     16
 }

@@ -1,7 +1,7 @@
 -- A row that is given column by column, `map f (counting 0 w)`.
 use Rattle.std.specs.Prelude.{◌≡◌, ℕ, zero, suc, ◌+◌, ◌<◌, List, [], ◌∷◌, map, replicate, Some, ◌≢◌, slice_index_or, slice_set, refl}
 use Rattle.std.proofs.Common.{ap, sym, subst, ◌∙◌, ⊎_elim, arith}
-use Rattle.std.specs.List.{range_with_len, AllByRecursion as All, slice_get}
+use Rattle.std.specs.List.{range_with_len, AllByRecursion, slice_get}
 use Rattle.std.proofs.lemmas.List.FromFn.{fill_by_all, get_or-map-range_with_len, length-map-range_with_len}
 use Rattle.std.proofs.lemmas.List.{get_or-set_other, get_or-set_same, length-set}
 use Rattle.std.proofs.lemmas.Bool.{cases_eq}
@@ -15,7 +15,7 @@ module _ {X : Type 0} (f : ℕ → X) where
   pub column_at : (w j : ℕ) → j < w → slice_get (map f (range_with_len 0 w)) j ≡ Some (f j)
   column_at w j h = column_from 0 w j j h (omega arith)
 
-  pub all_columns : (P : X → Type 0) (a n : ℕ) → ((j : ℕ) → P (f j)) → All P (map f (range_with_len a n))
+  pub all_columns : (P : X → Type 0) (a n : ℕ) → ((j : ℕ) → P (f j)) → AllByRecursion P (map f (range_with_len a n))
   all_columns P a zero h = tt
   all_columns P a (suc n) h = (h a, all_columns P (a + 1) n h)
 
@@ -33,7 +33,7 @@ module _ {X : Type 0} (f : ℕ → X) where
       (λ apart. get_or-set_other _ j k x x apart ∙ get_or-map-range_with_len f 0 w k k x lt (omega arith) ∙ sym (there k apart))
       (cases_eq k j)))
 
-pub at_nth : {X : Type 0} (P : X → Type 0) (xs : List X) (j : ℕ) (x : X) → All P xs → slice_get xs j ≡ Some x → P x
+pub at_nth : {X : Type 0} (P : X → Type 0) (xs : List X) (j : ℕ) (x : X) → AllByRecursion P xs → slice_get xs j ≡ Some x → P x
 at_nth P [] j x h e = absurd (let no_such : ◌≡◌ {A = ℕ} 0 1 = cc in omega arith)
 at_nth P (y ∷ xs) zero x h e = let same : y ≡ x = cc in subst P same h.0
 at_nth P (y ∷ xs) (suc j) x h e = at_nth P xs j x h.1 e

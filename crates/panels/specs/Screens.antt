@@ -1,6 +1,6 @@
 -- What a panel shows.
 use Rattle.std.specs.Prelude.{◌≡◌, ℕ, ◌≤◌, true, cond, List, [], length, replicate, Option, nat_le, nat_lt, slice_set}
-use Rattle.std.specs.List.{AllByRecursion as All, slice_get}
+use Rattle.std.specs.List.{AllByRecursion, slice_get}
 use Rattle.cells.specs.Values.{lawful}
 
 -- the row has the codes of the cell in each column, and none for a blank; a cursor before column j is j
@@ -16,7 +16,7 @@ pub record Lawful (s : Screen) : Type 0 where
   pub some : 1 ≤ s.columns
   pub few : s.columns ≤ 80
   pub full : length s.row ≡ s.columns
-  pub cells : All (λ x. lawful x ≡ true) s.row
+  pub cells : AllByRecursion (λ x. lawful x ≡ true) s.row
   pub within : s.cursor ≤ s.columns
 
 -- the codes in column j; there are none past the last column
