@@ -1,9 +1,11 @@
 // name_check [COLUMNS [LEVEL]]: reads a list of names, and writes for each whether a panel takes it, or why not and where.
 #![tactic(auto)]
+
 use names::report::report;
 use names::settings::{Misuse, settings_of};
 use std::env;
 use std::io::{Read, Write};
+use std::process::ExitCode;
 
 // The longest list that is read, in bytes.
 const LIMIT: usize = 1_048_576;
@@ -23,15 +25,16 @@ fn run(rt: &HostRuntime) -> anyhow::Result<String> {
     Ok(report(heap, settings, list.as_slice())?)
 }
 
-fn main(rt: HostRuntime) -> anyhow::Result<()> {
+fn main(rt: HostRuntime) -> ExitCode {
     match run(&rt) {
-        Ok(text) => {
-            rt.stdout().write_all(text.as_bytes())?;
-            Ok(())
-        }
+        Ok(text) => match rt.stdout().write_all(text.as_bytes()) {
+            Ok(()) => ExitCode::SUCCESS,
+            Err(_) => ExitCode::FAILURE,
+        },
         Err(error) => {
-            eprintln!(rt; "name_check: {error}")?;
-            Err(error)
+            // The status is the same whether or not the sentence can be written.
+            let _told = eprintln!(rt; "name_check: {error}");
+            ExitCode::FAILURE
         }
     }
 }
