@@ -3,5 +3,4 @@ pub mod Pictures
 pub mod Rows
 pub mod Screens
 pub mod Stacks
-pub mod Firsts
-pub mod Columns
+pub mod Laws

@@ -2,8 +2,7 @@
 ghost use Rattle.std.specs.Prelude.{◌≡◌};
 ghost use Rattle.panels.specs.Grids.{grid_screen};
 ghost use Rattle.panels.specs.Screens.{blank_of, nearest};
-ghost use Rattle.std.proofs.Common.{arith};
-ghost use Rattle.panels.specs.Firsts.{firsts_lawful, firsts_length};
+ghost use Rattle.panels.specs.Laws.{grid_lawful};
 
 use crate::grid::{GridPanel, Table};
 use crate::panel::{MAX_COLUMNS, Panel};
@@ -27,17 +26,7 @@ impl GridPanel {
 impl Panel for GridPanel {
     ghost screen = { grid_screen };
 
-    ghost lawful = { unfold grid_screen in
-        λ p.
-        let full = p.full in
-        let few = p.ruler.few in
-        record {
-          some = few.0;
-          few = few.1;
-          full = firsts_length p.ruler.columns p.table.cells (omega arith);
-          cells = firsts_lawful p.ruler.columns p.table.cells;
-          within = p.ruler.within;
-        } };
+    ghost lawful = { grid_lawful };
 
     fn columns(&self) -> usize {
         self.ruler.columns

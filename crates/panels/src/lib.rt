@@ -1,5 +1,6 @@
 // What a cab shows: columns of cells and a cursor.
 #![tactic(auto)]
+
 pub mod grid;
 pub mod grid_panel;
 pub mod panel;

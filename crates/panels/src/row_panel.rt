@@ -1,14 +1,11 @@
 // How the row panel is read and changed.
-ghost use Rattle.std.specs.Prelude.{◌≡◌, ℕ, ◌<◌, List, [], ◌≢◌};
+ghost use Rattle.std.specs.Prelude.{◌≡◌, ℕ, ◌<◌, [], ◌≢◌};
 ghost use Rattle.std.specs.Option.{option_map};
 ghost use Rattle.cells.specs.Contents.{held};
 ghost use Rattle.panels.specs.Rows.{row_screen, stack_at};
 ghost use Rattle.panels.specs.Screens.{blank_of, column, nearest};
-ghost use Rattle.panels.specs.Stacks.{stack_of, gathered};
-ghost use Rattle.std.proofs.Math.Bool;
-ghost use Rattle.std.proofs.lemmas.List.FromFn.{length-map-range_with_len};
-ghost use Rattle.cells.specs.Values;
-ghost use Rattle.panels.specs.Columns.{all_columns};
+ghost use Rattle.panels.specs.Stacks.{stack_of};
+ghost use Rattle.panels.specs.Laws.{row_lawful};
 
 use crate::panel::{MAX_COLUMNS, Panel};
 use crate::row::{RowPanel, Rows};
@@ -87,17 +84,7 @@ impl RowPanel {
 impl Panel for RowPanel {
     ghost screen = { row_screen };
 
-    ghost lawful = { unfold row_screen in
-        λ p.
-        let few = p.ruler.few in
-        let cell : ℕ → List ℕ = λ j. gathered (stack_at p.rows j) in
-        record {
-          some = few.0;
-          few = few.1;
-          full = length-map-range_with_len cell 0 p.ruler.columns;
-          cells = all_columns cell (λ x. Values.lawful x ≡ Bool.true) 0 p.ruler.columns (λ j. (p.rows.proper j).0);
-          within = p.ruler.within;
-        } };
+    ghost lawful = { row_lawful };
 
     fn columns(&self) -> usize {
         self.ruler.columns

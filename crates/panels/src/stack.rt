@@ -14,13 +14,16 @@ pub struct Stack {
     pub below: u8,
 }
 
-// The derived equality says too little of all four together.
+// The derived equality would not say that it decides `≡`.
 impl PartialEq for Stack {
     ghost eq = { eq_of_both (on (λ v. v.top) nat_eq) (eq_of_both (on (λ v. v.above) nat_eq) (eq_of_both (on (λ v. v.base) nat_eq) (on (λ v. v.below) nat_eq))) };
 
     ghost laws = { Keys.partial_equiv_from_equiv (Prim.search (comparing, rules)) };
 
-    fn eq(&self, other: &Stack) -> bool {
+    fn eq(&self, other: &Stack) -> bool
+        ensures value { result ≡ eq_of_both (on (λ v. v.top) nat_eq) (eq_of_both (on (λ v. v.above) nat_eq) (eq_of_both (on (λ v. v.base) nat_eq) (on (λ v. v.below) nat_eq))) self.now other.now }
+        ensures decides { Decides result (self.now ≡ other.now) }
+    {
         self.top == other.top
             && self.above == other.above
             && self.base == other.base

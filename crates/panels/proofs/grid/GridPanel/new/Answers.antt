@@ -1,5 +1,5 @@
 use Rattle.panels.specs.Grids.{grid_screen}
-use Rattle.panels.specs.Firsts.{firsts_blank}
+use Rattle.panels.proofs.Firsts.{firsts_blank}
 use Rattle.panels.proofs.grid.GridPanel.new.Goals as goal
 
 pub returns : goal.returns

@@ -2,7 +2,8 @@ use Rattle.std.proofs.Common.{sym, arith}
 use Rattle.std.proofs.lemmas.Option.{slice_get_past}
 use Rattle.std.proofs.lemmas.Bool.{ltb-false, ltb-true}
 use Rattle.panels.specs.Grids.{grid_screen}
-use Rattle.panels.specs.Firsts.{firsts_at, firsts_length}
+use Rattle.panels.specs.Laws.{firsts_length}
+use Rattle.panels.proofs.Firsts.{firsts_at}
 use Rattle.panels.proofs.grid_panel.GridPanelPanel.read.Goals as goal
 
 pub returns-then-has : goal.returns-then-has

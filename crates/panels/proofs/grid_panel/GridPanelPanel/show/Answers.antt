@@ -2,7 +2,7 @@ use Rattle.std.proofs.Common.{map, take, sym, ap, ◌∙◌}
 use Rattle.cells.specs.Contents.{held}
 use Rattle.panels.specs.Grids.{grid_screen}
 use Rattle.panels.proofs.Changes.{shown_no, shown_yes}
-use Rattle.panels.specs.Firsts.{firsts_set}
+use Rattle.panels.proofs.Firsts.{firsts_set}
 use Rattle.panels.proofs.grid_panel.GridPanelPanel.show.Goals as goal
 
 pub returns-then-has : goal.returns-then-has

@@ -14,7 +14,7 @@ loop-cell-init g c =
     let s : Screen = g.N.Panel.screen c.args.self.now.panel.now in
     (omega arith, drawn_none g.W.Write.write_str_gives c.args.f.now (ap (λ (n : ℕ). columns_text n 0 s.row) c.cursor-cursor.ensures))
 
-there : (g : Over) (c : goal.In-ok-write g) → c.loop-cell.j < (g.N.Panel.screen c.args.self.now.panel.now).columns
+there : (g : Over) (c : goal.In_ok-write g) → c.loop-cell.j < (g.N.Panel.screen c.args.self.now.panel.now).columns
 there g c =
     let p = c.args.self.now.panel.now in
     let full = (g.met.N.Panel.lawful p).full in

@@ -2,7 +2,7 @@ use Rattle.std.proofs.Common.{[], ap, ◌∙◌}
 use Rattle.panels.specs.Rows.{row_screen, stack_at}
 use Rattle.panels.specs.Screens.{blank_of, screen_of}
 use Rattle.panels.specs.Stacks.{gathered}
-use Rattle.panels.specs.Columns.{same_columns}
+use Rattle.panels.proofs.Columns.{same_columns}
 use Rattle.panels.proofs.Stacked.{empty_gathered}
 use Rattle.panels.proofs.row.RowPanel.new.Goals as goal
 

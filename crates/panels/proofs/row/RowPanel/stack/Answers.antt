@@ -5,7 +5,7 @@ use Rattle.std.proofs.lemmas.Option.{slice_get_past}
 use Rattle.std.proofs.lemmas.Bool.{ltb-false, ltb-true}
 use Rattle.panels.specs.Rows.{row_screen, stack_at}
 use Rattle.panels.specs.Stacks.{gathered, stack_of}
-use Rattle.panels.specs.Columns.{column_at}
+use Rattle.panels.proofs.Columns.{column_at}
 use Rattle.panels.proofs.Stacked.{proper_stack}
 use Rattle.panels.proofs.row.RowPanel.stack.Goals as goal
 

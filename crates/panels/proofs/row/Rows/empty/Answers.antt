@@ -4,7 +4,7 @@ use Rattle.panels.proofs.Stacked.{empty_proper, empty_rows}
 use Rattle.panels.proofs.row.Rows.empty.Goals as goal
 
 pub invariant_of-result : goal.invariant_of-result
-invariant_of-result c = ((refl, refl, refl, refl), ((λ j. subst Proper (sym (empty_rows j)) empty_proper), tt))
+invariant_of-result c = record { long = (refl, refl, refl, refl); proper = λ j. subst Proper (sym (empty_rows j)) empty_proper }
 
 pub returns : goal.returns
 returns c = empty_rows

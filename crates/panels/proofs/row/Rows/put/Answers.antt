@@ -8,13 +8,11 @@ invariant_of-self c =
     let p = c.args.self.now in
     let j = c.args.j in
     let x = c.of-top.result in
-    let long = p.long in (
-      (length-set p.top j x.top ∙ long.0, length-set p.above j x.above ∙ long.1, length-set p.base j x.base ∙ long.2, length-set p.below j x.below ∙ long.3),
-      (
-        changed_proper p.top p.above p.base p.below j x (omega arith, omega arith, omega arith, omega arith) (subst Proper (sym c.of-top.ensures.value) (cell_proper c.args.cell)) p.proper,
-        tt,
-      ),
-    )
+    let long = p.long in
+    record {
+      long = (length-set p.top j x.top ∙ long.0, length-set p.above j x.above ∙ long.1, length-set p.base j x.base ∙ long.2, length-set p.below j x.below ∙ long.3);
+      proper = changed_proper p.top p.above p.base p.below j x (omega arith, omega arith, omega arith, omega arith) (subst Proper (sym c.of-top.ensures.value) (cell_proper c.args.cell)) p.proper;
+    }
 
 pub returns : goal.returns
 returns c =

@@ -5,7 +5,7 @@ use Rattle.cells.specs.Contents.{held}
 use Rattle.panels.specs.Rows.{row_screen, stack_at}
 use Rattle.panels.specs.Stacks.{gathered}
 use Rattle.panels.proofs.Changes.{shown_no, shown_yes}
-use Rattle.panels.specs.Columns.{column_set}
+use Rattle.panels.proofs.Columns.{column_set}
 use Rattle.panels.proofs.Outward.{held_again}
 use Rattle.panels.proofs.row_panel.RowPanelPanel.show.Goals as goal
 

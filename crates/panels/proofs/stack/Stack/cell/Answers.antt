@@ -9,7 +9,7 @@ use Rattle.panels.proofs.stack.Stack.cell.Goals as goal
 pub returns-in_err-cell : goal.returns-in_err-cell
 returns-in_err-cell c =
     let x = c.args.self.now in
-    subst (λ o. MatchOption o ((y : Cell) → stack_of (held y) ≡ x → ⊥) (λ y. stack_of (held y) ≡ x)) (sym c.from-residual.ensures)
+    subst (λ o. MatchOption o ((y : Cell) → stack_of (held y) ≡ x → ⊥) (λ y. stack_of (held y) ≡ x)) (sym c.from_residual.ensures)
     (λ y same. not_found y (sym c.in_err-cell.was ∙ found x c.gather.result c.gather.ensures y same))
 
 pub returns-else-eq : goal.returns-else-eq
@@ -18,4 +18,4 @@ returns-else-eq c = λ y same.
     let z = c.in_ok-cell.cell in
     let is : Some z ≡ Some y = sym c.in_ok-cell.was ∙ found x c.gather.result c.gather.ensures y same in
     let codes : held z ≡ held y = cc in
-    both_ways false refl (c.if-eq.ensures.1 (c.of.ensures.value ∙ ap stack_of codes ∙ same))
+    both_ways false refl (c.if-eq.ensures.decides.1 (c.of.ensures.value ∙ ap stack_of codes ∙ same))

@@ -1,21 +1,11 @@
 -- The first cells of a table, by their codes.
-use Rattle.std.specs.Prelude.{◌≡◌, ℕ, zero, suc, ◌<◌, ◌≤◌, true, List, [], ◌∷◌, map, length, take, replicate, Some, slice_index_or, slice_set, refl}
+use Rattle.std.specs.Prelude.{◌≡◌, ℕ, zero, suc, ◌<◌, ◌≤◌, List, [], ◌∷◌, map, length, take, replicate, Some, slice_index_or, slice_set, refl}
 use Rattle.std.proofs.Common.{ap, ◌∙◌, arith}
-use Rattle.std.specs.List.{AllByRecursion, slice_get}
-use Rattle.std.proofs.lemmas.List.{length-map, length-take-le, map-set, take-replicate}
+use Rattle.std.specs.List.{slice_get}
+use Rattle.std.proofs.lemmas.List.{map-set, take-replicate}
 use Rattle.cells.specs.declared.cell.Cell.{Cell}
 use Rattle.cells.specs.Contents.{held}
-use Rattle.cells.specs.Values.{lawful}
-use Rattle.cells.proofs.Same.{held_lawful}
 use Rattle.panels.specs.Screens.{blank_of, screen_of}
-
-pub firsts_length : (n : ℕ) (cells : List Cell) → n ≤ length cells → length (map held (take n cells)) ≡ n
-firsts_length n cells h = length-map (take n cells) held ∙ length-take-le n cells h
-
-pub firsts_lawful : (n : ℕ) (cells : List Cell) → AllByRecursion (λ x. lawful x ≡ true) (map held (take n cells))
-firsts_lawful zero cells = tt
-firsts_lawful (suc n) [] = tt
-firsts_lawful (suc n) (x ∷ cells) = (held_lawful x, firsts_lawful n cells)
 
 set_take : {X : Type 0} (n : ℕ) (xs : List X) (j : ℕ) (x : X) → take n (slice_set xs j x) ≡ slice_set (take n xs) j x
 set_take zero xs j x = refl

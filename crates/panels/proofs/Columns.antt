@@ -15,10 +15,6 @@ module _ {X : Type 0} (f : ℕ → X) where
   pub column_at : (w j : ℕ) → j < w → slice_get (map f (range_with_len 0 w)) j ≡ Some (f j)
   column_at w j h = column_from 0 w j j h (omega arith)
 
-  pub all_columns : (P : X → Type 0) (a n : ℕ) → ((j : ℕ) → P (f j)) → AllByRecursion P (map f (range_with_len a n))
-  all_columns P a zero h = tt
-  all_columns P a (suc n) h = (h a, all_columns P (a + 1) n h)
-
   pub same_columns : (x : X) (a n : ℕ) → ((j : ℕ) → f j ≡ x) → map f (range_with_len a n) ≡ replicate n x
   same_columns x a zero h = refl
   same_columns x a (suc n) h = λ i. h a i ∷ same_columns x (a + 1) n h i
