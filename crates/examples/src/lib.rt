@@ -1,5 +1,6 @@
 // Worked examples: a list that is shown to follow from the definitions, and tests that run the code.
 #![tactic(auto)]
+
 ghost use Rattle.std.specs.Prelude.{◌≡◌, false, length};
 ghost use Rattle.std.specs.List.{AllByRecursion};
 ghost use Rattle.examples.specs.Examples.{Holds, examples};
@@ -139,8 +140,8 @@ mod tests {
         let mark = cell_of(&[0xD4])?;
         let none = cell_of(&[])?;
         assert_eq!(rt; three.len(), 3);
-        assert_eq!(rt; three.codes(), &[0xA1, 0xD9, 0xE8]);
-        assert_eq!(rt; mark.codes(), &[0xD4]);
+        assert_eq!(rt; three.codes(), [0xA1, 0xD9, 0xE8].as_slice());
+        assert_eq!(rt; mark.codes(), [0xD4].as_slice());
         assert!(rt; none == Cell::blank());
         assert!(rt; mark != three);
         assert!(rt; Cell::new(&[0xA1, 0xE8, 0xD4]).is_none());
