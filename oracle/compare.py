@@ -1,7 +1,7 @@
 #!/usr/bin/env python3
 """Runs a name_check and the second one beside this file on many lists, and tells where they differ.
 
-usage: compare.py target/bin/name_check
+usage: compare.py crates/name_check/out/name_check
 """
 import itertools
 import pathlib
