@@ -60,7 +60,7 @@ impl Class {
     }
 }
 
-// The derived equality of so large an enum would promise less.
+// Written out, so that its clause says that it decides which classes are the same.
 impl PartialEq for Class {
     ghost eq = { λ x y. class_number x == class_number y };
 

@@ -1,4 +1,4 @@
--- A row that is given column by column, `map f (counting 0 w)`.
+-- A row that is given column by column, `map f (range_with_len 0 w)`.
 use Rattle.std.specs.Prelude.{◌≡◌, ℕ, zero, suc, ◌+◌, ◌<◌, List, [], ◌∷◌, map, replicate, Some, ◌≢◌, slice_index_or, slice_set, refl}
 use Rattle.std.proofs.Common.{ap, sym, subst, ◌∙◌, ⊎_elim, arith}
 use Rattle.std.specs.List.{range_with_len, AllByRecursion, slice_get}

@@ -5,7 +5,7 @@ use Rattle.std.specs.declared.fmt.Formatter.{Formatter}
 use Rattle.std.specs.List.{slice_get}
 use Rattle.std.specs.Fmt.{IsPlainFormatter, HasWritten}
 use Rattle.std.proofs.lemmas.List.{at_drop_all, at_drop_more}
-use Rattle.std.proofs.lemmas.Option.{slice_get-get_or as nth-getD, slice_get_past}
+use Rattle.std.proofs.lemmas.Option.{slice_get-get_or, slice_get_past}
 use Rattle.std.proofs.lemmas.Bool.{cases_lt}
 use Rattle.codes.proofs.Writing.{put_more, put_none}
 use Rattle.cells.specs.Texts.{cell_text}
@@ -36,7 +36,7 @@ module _ {W : Type 0} (took : W → List ℕ → W → Type 0) where
 -- the columns from j on, by the cell in column j
 pub column_is : (row : List (List ℕ)) (j : ℕ) (x : List ℕ) → Some x ≡ slice_get row j → (j < length row) × (get_or row j [] ≡ x)
 column_is row j x e =
-    ⊎_elim (λ lt. let at = nth-getD row j [] lt in let same : get_or row j [] ≡ x = cc in (lt, same))
+    ⊎_elim (λ lt. let at = slice_get-get_or row j [] lt in let same : get_or row j [] ≡ x = cc in (lt, same))
     (λ le. let past = slice_get_past row j le in absurd (let no_such : ◌≡◌ {A = ℕ} 0 1 = cc in omega arith)) (cases_lt j (length row))
 
 pub columns_more : (cursor j : ℕ) (row : List (List ℕ)) (x : List ℕ) → Some x ≡ slice_get row j → columns_text cursor j (drop j row) ≡ (bar (eqb j cursor) ∷ cell_text x) ++ columns_text cursor (j + 1) (drop (j + 1) row)
@@ -46,7 +46,7 @@ columns_more cursor j row x e =
 
 pub columns_end : (cursor j : ℕ) (row : List (List ℕ)) → None ≡ slice_get row j → columns_text cursor j (drop j row) ≡ bar (eqb j cursor) ∷ []
 columns_end cursor j row e =
-    ⊎_elim (λ lt. let at = nth-getD row j [] lt in cc) (λ le. at_drop_all (columns_text cursor j) row j le) (cases_lt j (length row))
+    ⊎_elim (λ lt. let at = slice_get-get_or row j [] lt in cc) (λ le. at_drop_all (columns_text cursor j) row j le) (cases_lt j (length row))
 
 pub encode_bar : (c : ℕ) (b : Bool) → c ≡ bar b → encode c ≡ bar b ∷ []
 unfolding encode

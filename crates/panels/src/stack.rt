@@ -14,7 +14,7 @@ pub struct Stack {
     pub below: u8,
 }
 
-// The derived equality would not say that it decides `≡`.
+// Written out, so that its clause says that it decides which stacks are the same.
 impl PartialEq for Stack {
     ghost eq = { eq_of_both (on (λ v. v.top) nat_eq) (eq_of_both (on (λ v. v.above) nat_eq) (eq_of_both (on (λ v. v.base) nat_eq) (on (λ v. v.below) nat_eq))) };
 

@@ -1,7 +1,4 @@
-use mathlib.Core.Bool.{true}
-use mathlib.Core.Logic.{⊎_elim}
-use mathlib.Core.Path.{◌≡◌, refl, sym, ap, ◌∙◌}
-use lib.Dec.{ltb}
+use Rattle.std.proofs.Common.{◌≡◌, true, ltb, sym, refl, ap, ◌∙◌, ⊎_elim}
 use Rattle.codes.specs.declared.verdicts.Verdict.{Verdict}
 use Rattle.policies.specs.declared.level.Level.{Level}
 use Rattle.policies.specs.Levels.{level_pairs, passes}
