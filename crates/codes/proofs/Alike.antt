@@ -1,9 +1,12 @@
 -- Whether two display levels are the same is decided by their numbers.
-use Rattle.std.proofs.Common.{◌≡◌, true, false, sym, refl, ap, ◌∙◌}
+use Rattle.std.proofs.Common.{◌≡◌, ℕ, [], ◌∷◌, get_or, true, false, sym, refl, ap, ◌∙◌}
 use Rattle.std.proofs.lemmas.Bool.{eq-eqb, ne_eqb}
 use Rattle.codes.specs.declared.levels.DisplayLevel.{DisplayLevel}
 use Rattle.codes.specs.declared.levels.DisplayLevel.TheVariants.{Nowhere, Top, Above, Base, Below}
-use Rattle.codes.specs.Levels.{level_number, level_numbered, same_level}
+use Rattle.codes.specs.Levels.{level_number, same_level}
+
+abbrev level_numbered : ℕ → DisplayLevel
+level_numbered n = get_or (Nowhere ∷ Top ∷ Above ∷ Base ∷ Below ∷ []) n Nowhere
 
 numbered : (l : DisplayLevel) → level_numbered (level_number l) ≡ l
 numbered Nowhere = refl

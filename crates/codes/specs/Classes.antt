@@ -1,5 +1,5 @@
 -- The seventeen classes, each with the list of its codes as ranges (TIS 1566, clause 4.2).
-use Rattle.std.specs.Prelude.{ℕ, zero, suc, ◌-◌, Bool, false, cond, not, ◌&&◌, ◌||◌, List, [], ◌∷◌, count_by, ◌==◌, nat_le, slice_index_or}
+use Rattle.std.specs.Prelude.{ℕ, zero, suc, Bool, false, cond, not, ◌&&◌, ◌||◌, List, [], ◌∷◌, count_by, ◌==◌, nat_le}
 use Rattle.codes.specs.declared.classes.Class.{Class}
 use Rattle.codes.specs.declared.classes.Class.TheVariants.{Ctrl, Non, Cons, Lv, Fv1, Fv2, Fv3, Bv1, Bv2, Bd, Tone, Ad1, Ad2, Ad3, Av1, Av2, Av3}
 
@@ -62,10 +62,6 @@ class_number Av3 = 16
 -- the classes in the order of their numbers
 abbrev pub classes : List Class
 classes = Ctrl ∷ Non ∷ Cons ∷ Lv ∷ Fv1 ∷ Fv2 ∷ Fv3 ∷ Bv1 ∷ Bv2 ∷ Bd ∷ Tone ∷ Ad1 ∷ Ad2 ∷ Ad3 ∷ Av1 ∷ Av2 ∷ Av3 ∷ []
-
--- the class of a letter, A for class 0 to Q for class 16
-abbrev pub class_lettered : ℕ → Class
-class_lettered l = slice_index_or classes (l - 65) Ctrl
 
 abbrev pub is_control : Class → Bool
 is_control k = class_number k == 0

@@ -1,13 +1,9 @@
 -- The display level of each class: none for CTRL, base for 1 to 6, below for 7 to 9, top for 10 to 13, above for 14 to 16.
-use Rattle.std.specs.Prelude.{ℕ, Bool, [], ◌∷◌, ◌==◌, slice_index_or}
+use Rattle.std.specs.Prelude.{ℕ, Bool, ◌==◌}
 use Rattle.codes.specs.declared.classes.Class.{Class}
 use Rattle.codes.specs.declared.classes.Class.TheVariants.{Ctrl, Non, Cons, Lv, Fv1, Fv2, Fv3, Bv1, Bv2, Bd, Tone, Ad1, Ad2, Ad3, Av1, Av2, Av3}
 use Rattle.codes.specs.declared.levels.DisplayLevel.{DisplayLevel}
 use Rattle.codes.specs.declared.levels.DisplayLevel.TheVariants.{Nowhere, Top, Above, Base, Below}
-
--- the levels in the order of their numbers
-abbrev pub level_numbered : ℕ → DisplayLevel
-level_numbered n = slice_index_or (Nowhere ∷ Top ∷ Above ∷ Base ∷ Below ∷ []) n Nowhere
 
 abbrev pub level_number : DisplayLevel → ℕ
 level_number Nowhere = 0

@@ -1,12 +1,11 @@
 // The class of a code (TIS 1566, clause 4.2), and which codes are text and which are marks.
-ghost use Rattle.std.specs.Prelude.{◌≡◌, ◌==◌, Decides};
-ghost use Rattle.codes.specs.Classes.{class_number, class_lettered, class_of, how_many, is_control, is_mark, is_text, is_unused, lists_with};
-ghost use Rattle.std.specs.Cmp.Rules.{comparing};
-ghost use Rattle.std.proofs.Common.{rules};
-ghost use Rattle.std.specs.Cmp as Keys;
+ghost use Rattle.std.specs.Prelude.{◌≡◌};
+ghost use Rattle.codes.specs.Classes.{class_number, class_of, how_many, is_control, is_mark, is_text, is_unused, lists_with};
+
+use Class::{Ad1, Ad2, Ad3, Av1, Av2, Av3, Bd, Bv1, Bv2, Cons, Ctrl, Fv1, Fv2, Fv3, Lv, Non, Tone};
 
 // In the standard's order, which gives each class its number, 0 to 16.
-#[derive(Clone, Copy, Debug)]
+#[derive(Clone, Copy, Debug, PartialEq, Eq, PartialOrd, Ord)]
 pub enum Class {
     Ctrl,
     Non,
@@ -27,24 +26,41 @@ pub enum Class {
     Av3,
 }
 
-// Each code's class as a letter, A for class 0 to Q for class 16; a row has sixteen codes.
-const LETTERS: [u8; 256] = *b"\
-    AAAAAAAAAAAAAAAA\
-    AAAAAAAAAAAAAAAA\
-    BBBBBBBBBBBBBBBB\
-    BBBBBBBBBBBBBBBB\
-    BBBBBBBBBBBBBBBB\
-    BBBBBBBBBBBBBBBB\
-    BBBBBBBBBBBBBBBB\
-    BBBBBBBBBBBBBBBA\
-    AAAAAAAAAAAAAAAA\
-    AAAAAAAAAAAAAAAA\
-    BCCCCCCCCCCCCCCC\
-    CCCCCCCCCCCCCCCC\
-    CCCCGCGCCCCCCCCB\
-    EPEEOQPQHIJBBBBB\
-    DDDDDFBMKKKKLLNB\
-    BBBBBBBBBBBBBBBA";
+// The class of each code.
+static CLASSES: [Class; 256] = [
+    // 00 to 0F
+    Ctrl, Ctrl, Ctrl, Ctrl, Ctrl, Ctrl, Ctrl, Ctrl, Ctrl, Ctrl, Ctrl, Ctrl, Ctrl, Ctrl, Ctrl, Ctrl,
+    // 10 to 1F
+    Ctrl, Ctrl, Ctrl, Ctrl, Ctrl, Ctrl, Ctrl, Ctrl, Ctrl, Ctrl, Ctrl, Ctrl, Ctrl, Ctrl, Ctrl, Ctrl,
+    // 20 to 2F
+    Non, Non, Non, Non, Non, Non, Non, Non, Non, Non, Non, Non, Non, Non, Non, Non,
+    // 30 to 3F
+    Non, Non, Non, Non, Non, Non, Non, Non, Non, Non, Non, Non, Non, Non, Non, Non,
+    // 40 to 4F
+    Non, Non, Non, Non, Non, Non, Non, Non, Non, Non, Non, Non, Non, Non, Non, Non,
+    // 50 to 5F
+    Non, Non, Non, Non, Non, Non, Non, Non, Non, Non, Non, Non, Non, Non, Non, Non,
+    // 60 to 6F
+    Non, Non, Non, Non, Non, Non, Non, Non, Non, Non, Non, Non, Non, Non, Non, Non,
+    // 70 to 7F
+    Non, Non, Non, Non, Non, Non, Non, Non, Non, Non, Non, Non, Non, Non, Non, Ctrl,
+    // 80 to 8F
+    Ctrl, Ctrl, Ctrl, Ctrl, Ctrl, Ctrl, Ctrl, Ctrl, Ctrl, Ctrl, Ctrl, Ctrl, Ctrl, Ctrl, Ctrl, Ctrl,
+    // 90 to 9F
+    Ctrl, Ctrl, Ctrl, Ctrl, Ctrl, Ctrl, Ctrl, Ctrl, Ctrl, Ctrl, Ctrl, Ctrl, Ctrl, Ctrl, Ctrl, Ctrl,
+    // A0 to AF
+    Non, Cons, Cons, Cons, Cons, Cons, Cons, Cons, Cons, Cons, Cons, Cons, Cons, Cons, Cons, Cons,
+    // B0 to BF
+    Cons, Cons, Cons, Cons, Cons, Cons, Cons, Cons, Cons, Cons, Cons, Cons, Cons, Cons, Cons, Cons,
+    // C0 to CF
+    Cons, Cons, Cons, Cons, Fv3, Cons, Fv3, Cons, Cons, Cons, Cons, Cons, Cons, Cons, Cons, Non,
+    // D0 to DF
+    Fv1, Av2, Fv1, Fv1, Av1, Av3, Av2, Av3, Bv1, Bv2, Bd, Non, Non, Non, Non, Non,
+    // E0 to EF
+    Lv, Lv, Lv, Lv, Lv, Fv2, Non, Ad2, Tone, Tone, Tone, Tone, Ad1, Ad1, Ad3, Non,
+    // F0 to FF
+    Non, Non, Non, Non, Non, Non, Non, Non, Non, Non, Non, Non, Non, Non, Non, Ctrl,
+];
 
 impl Class {
     pub fn number(self) -> u8
@@ -56,49 +72,7 @@ impl Class {
     pub fn is_control(self) -> bool
         ensures { result ≡ is_control self }
     {
-        self.number() == 0
-    }
-}
-
-// Written out, so that its clause says that it decides which classes are the same.
-impl PartialEq for Class {
-    ghost eq = { λ x y. class_number x == class_number y };
-
-    ghost laws = { Keys.partial_equiv_from_equiv (Prim.search (comparing, rules)) };
-
-    fn eq(&self, other: &Class) -> bool
-        ensures value { result ≡ (class_number self.now == class_number other.now) }
-        ensures decides { Decides result (self.now ≡ other.now) }
-    {
-        self.number() == other.number()
-    }
-}
-
-impl Eq for Class {
-    ghost laws = { Prim.search (comparing, rules) };
-}
-
-fn class_lettered(letter: u8) -> Class
-    ensures { result ≡ class_lettered letter }
-{
-    match letter {
-        b'B' => Class::Non,
-        b'C' => Class::Cons,
-        b'D' => Class::Lv,
-        b'E' => Class::Fv1,
-        b'F' => Class::Fv2,
-        b'G' => Class::Fv3,
-        b'H' => Class::Bv1,
-        b'I' => Class::Bv2,
-        b'J' => Class::Bd,
-        b'K' => Class::Tone,
-        b'L' => Class::Ad1,
-        b'M' => Class::Ad2,
-        b'N' => Class::Ad3,
-        b'O' => Class::Av1,
-        b'P' => Class::Av2,
-        b'Q' => Class::Av3,
-        _ => Class::Ctrl,
+        self == Ctrl
     }
 }
 
@@ -107,7 +81,7 @@ pub fn class_of(code: u8) -> Class
     ensures value { result ≡ class_of code }
     ensures single { lists_with code ≡ 1 }
 {
-    class_lettered(LETTERS[code as usize])
+    CLASSES[code as usize]
 }
 
 // The codes that the standard leaves unused.
@@ -118,6 +92,7 @@ fn is_unused(code: u8) -> bool
 }
 
 // Whether a line may hold the code: it is neither a control code nor unused. There are 184 of these.
+#[tactic(auto, using(crate::proofs::Tables::text_codes), unfolding(crate::specs::Classes::is_text))]
 pub fn is_text(code: u8) -> bool
     ensures value { result ≡ is_text code }
     ensures count { how_many is_text ≡ 184 }
@@ -126,9 +101,10 @@ pub fn is_text(code: u8) -> bool
 }
 
 // Whether the code is a vowel, tone or sign that stands above or below another. There are 16 of these.
+#[tactic(auto, using(crate::proofs::Tables::mark_codes), unfolding(crate::specs::Classes::is_mark))]
 pub fn is_mark(code: u8) -> bool
     ensures value { result ≡ is_mark code }
     ensures count { how_many is_mark ≡ 16 }
 {
-    class_of(code).number() >= 7
+    class_of(code) >= Bv1
 }

@@ -1,14 +1,12 @@
-use Rattle.std.proofs.Common.{◌≡◌, ℕ, List, [], ◌∷◌, ◌++◌, ◌∙◌, subst}
-use lib.Utf8.{encode}
-use Rattle.std.specs.Fmt.{HasWritten}
-use Rattle.std.proofs.lemmas.Str.{encode_ascii}
+use Rattle.std.proofs.Common.{◌≡◌, true, Some, ap, subst, arith}
+use Rattle.std.specs.Fmt.{DisplaysOnOk, styled_digits_output}
+use Rattle.std.proofs.lemmas.Fmt.{hex_byte}
 use Rattle.codes.specs.Hexes.{hex_of}
 use Rattle.codes.proofs.hex.HexDisplay.fmt.Goals as goal
 
 pub returns-clause-writes : goal.returns-clause-writes
 returns-clause-writes g c =
-    let high = c.digit-high in
-    let low = c.digit-low in
-    let same : encode high.result ++ encode low.result ≡ hex_of c.args.self.now.0 =
-    (λ i. encode_ascii high.result high.ensures.ascii i ++ encode_ascii low.result low.ensures.ascii i) ∙ (λ i. high.ensures.value i ∷ low.ensures.value i ∷ []) in
-    λ plain ok. subst (λ (bs : List ℕ). HasWritten g.W.Write.write_str_gives c.args.f.now bs c.write.new.self) same (c.write.ensures.writes plain ok)
+    let code = c.args.self.now.0 in
+    let two : styled_digits_output c.in_radix.result c.laid_out.result ≡ Some (hex_of code) =
+    rw (c.laid_out.ensures, c.in_radix.ensures) (ap Some (hex_byte true code (omega arith))) in
+    subst (λ o. DisplaysOnOk g.W.Write.write_str_gives c.args.f.now c.write.result o c.write.new.self) two c.write.ensures.writes
