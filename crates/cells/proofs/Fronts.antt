@@ -1,11 +1,9 @@
 -- Runs from the front of a string, for any kind of code that tells its class.
-use Rattle.std.proofs.Common.{◌≡◌, ℕ, suc, ◌+◌, ◌-◌, ◌<◌, ◌≤◌, Bool, true, false, cond, not, List, [], ◌∷◌, length, get_or, take, drop, Some, sym, refl, ap, ◌∙◌, subst, add-zero, arith, length-drop}
-use Rattle.std.specs.List.{slice_get}
-use Rattle.std.proofs.lemmas.List.{at_drop_more, drop-drop, drop_all, get_or-drop, take_rest}
+use Rattle.std.proofs.Common.{◌≡◌, ℕ, suc, ◌+◌, ◌-◌, ◌<◌, ◌≤◌, Bool, true, false, cond, not, List, [], ◌∷◌, length, get_or, take, drop, sym, refl, ap, ◌∙◌, arith}
+use Rattle.std.proofs.lemmas.List.{at_drop_more, take_rest}
 use Rattle.codes.specs.declared.classes.Class.{Class}
 use Rattle.codes.specs.Classes.{is_control}
-use Rattle.cells.specs.declared.division.Span.{Span}
-use Rattle.cells.specs.Runs.{joins, into, runs, first_run, is_cell, spans}
+use Rattle.cells.specs.Runs.{joins, into, runs, first_run, is_cell}
 
 -- what `runs` gives at a code, by whether the next one joins it
 abbrev pub led : {X : Type 0} → Bool → X → List (List X) → List (List X)
@@ -81,47 +79,3 @@ module _ {X : Type 0} (k : X → Class) where
 
   pub front_within : (c : X) (s : List X) → (0 < front (c ∷ s)) × (front (c ∷ s) ≤ length (c ∷ s))
   front_within c s = (omega (arith, front_more c s), omega (arith, front_more c s, more_le (k c) s))
-
-  -- the run of n codes that starts at a place with a code of class b
-  pub record Turn (s : List X) (at n : ℕ) (b : Class) : Type 0 where
-    pub some : 0 < n
-    pub within : at + n ≤ length s
-    pub first : List X
-    pub long : length first ≡ n
-    pub cell : is_cell k first ≡ not (is_control b)
-    pub rest : runs k (drop at s) ≡ first ∷ runs k (drop (at + n) s)
-
-  turn_of : (s t : List X) (at : ℕ) (d : X) → t ≡ drop at s → at < length s → Turn s at (front t) (k (get_or s at d))
-  turn_of s [] at d e h = absurd (omega (arith, ap length e, length-drop at s))
-  turn_of s (c ∷ t) at d e h =
-      let l : suc (length t) ≡ length s - at = ap length e ∙ length-drop at s in
-      let same : c ≡ get_or s at d = ap (λ l. get_or l 0 d) e ∙ get_or-drop at s 0 d ∙ ap (λ i. get_or s i d) (add-zero at) in
-      record {
-        some = (front_within c t).0;
-        within = omega (arith, (front_within c t).1, l);
-        first = first_run (runs k (c ∷ t));
-        long = refl;
-        cell = first_cell c t ∙ ap (λ z. not (is_control (k z))) same;
-        rest = ap (runs k) (sym e) ∙ runs_front c t ∙ ap (λ z. first_run (runs k (c ∷ t)) ∷ runs k z) (ap (drop (front (c ∷ t))) e ∙ drop-drop (front (c ∷ t)) at s);
-      }
-
-  -- with the length of the first run of `&s[at..]`, as the checker reads it
-  pub turn : (s : List X) (at n : ℕ) (b : Class) (d : X) → at < length s → b ≡ k (get_or s at d) → n ≡ front (take (length s - at) (drop at s)) → Turn s at n b
-  turn s at n b d h v e =
-      subst (Turn s at n) (sym v) (subst (λ (m : ℕ). Turn s at m (k (get_or s at d))) (sym (e ∙ ap front (take_rest s at))) (turn_of s (drop at s) at d refl h))
-
-  -- the spans from a place on, by whether the code there is a control code
-  pub spans_at : {s : List X} {at n : ℕ} {b : Class} → Turn s at n b → (t : Bool) → t ≡ is_control b → spans k at (runs k (drop at s)) ≡ cond (not t) (record { start = at; len = n } ∷ spans k (at + n) (runs k (drop (at + n) s))) (spans k (at + n) (runs k (drop (at + n) s)))
-  spans_at {at = at} u t e =
-      let is : is_cell k u.first ≡ not t = u.cell ∙ ap not (sym e) in
-      let long = u.long in
-      ap (spans k at) u.rest ∙ rw (is, long)
-
-  pub none_left : (s : List X) (at : ℕ) → length s ≤ at → runs k (drop at s) ≡ []
-  none_left s at h = ap (runs k) (drop_all at s h)
-
-pub nth_past_one : (x : Span) (xs : List Span) (j n : ℕ) → n < j → slice_get (x ∷ xs) (j - n) ≡ slice_get xs (j - (n + 1))
-nth_past_one x xs j n h = let e : j - n ≡ suc (j - (n + 1)) = omega arith in rw e
-
-pub nth_here : (x : Span) (xs : List Span) (j n : ℕ) → n ≡ j → slice_get (x ∷ xs) (j - n) ≡ Some x
-nth_here x xs j n h = let e : j - n ≡ 0 = omega arith in rw e

@@ -56,3 +56,11 @@ module _ {X : Type 0} (k : X → Class) where
 
   pub spanned : (s : List X) (j : ℕ) (o : Option Span) → o ≡ cell_at k s j → Spanned k s j o
   spanned s j o e = spanned_by s j o (sym e)
+
+  -- what follows the first run
+  pub first_long : (s t r : List X) → runs k s ≡ r ∷ runs k t → length s ≡ length r + length t
+  first_long s t r e =
+      ap length (sym (whole k s) ∙ ap (flat_map (λ p. p)) e) ∙ length-append r (flat_map (λ p. p) (runs k t)) ∙ ap (λ l. length r + length l) (whole k t)
+
+pub nth_past_one : (x : Span) (xs : List Span) (j n : ℕ) → n < j → slice_get (x ∷ xs) (j - n) ≡ slice_get xs (j - (n + 1))
+nth_past_one x xs j n h = let e : j - n ≡ suc (j - (n + 1)) = omega arith in rw e

@@ -1,11 +1,11 @@
 -- What a cell may hold.
 use Rattle.std.specs.Prelude.{ℕ, ◌-◌, Bool, true, cond, ◌&&◌, List, [], ◌∷◌, ◌++◌, length, replicate, ◌==◌, nat_le}
+use Rattle.std.specs.List.{list_all}
 use Rattle.codes.specs.Classes.{class_of, is_text}
 use Rattle.cells.specs.Runs.{joins}
 
 abbrev pub all_text : List ℕ → Bool
-all_text [] = true
-all_text (c ∷ cs) = is_text c && all_text cs
+all_text s = list_all is_text s
 
 -- each later code has verdict Compose after the one before it
 abbrev pub chained : List ℕ → Bool

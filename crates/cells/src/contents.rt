@@ -17,12 +17,7 @@ use codes::classes::is_text;
 fn all_text(codes: &[u8]) -> bool
     ensures { result ≡ all_text codes.now }
 {
-    for code in codes {
-        if !is_text(*code) {
-            return false;
-        }
-    }
-    true
+    codes.iter().all(|code| is_text(*code))
 }
 
 // Whether a cell may hold these codes: they are text, and all in one run, which has at most three.
@@ -51,6 +46,7 @@ impl Cell {
         Some(Cell { places })
     }
 
+    #[tactic(auto, unfolding(crate::specs::Contents::held))]
     pub fn blank() -> Cell
         ensures { held result ≡ [] }
     {
@@ -58,18 +54,15 @@ impl Cell {
     }
 
     // How many codes the cell holds: none if it is blank.
+    #[tactic(auto, using(crate::proofs::Same::held_count))]
     pub fn len(&self) -> usize
         ensures { result ≡ length (held self.now) }
     {
-        let [first, second, third] = self.places;
-        if first == 0 {
-            0
-        } else if second == 0 {
-            1
-        } else if third == 0 {
-            2
-        } else {
-            3
+        match self.places {
+            [0, ..] => 0,
+            [_, 0, _] => 1,
+            [_, _, 0] => 2,
+            _ => 3,
         }
     }
 
@@ -83,6 +76,8 @@ impl Cell {
     }
 }
 
+// Written out, since a derived one does not say that it decides which cells are the same: its proof does not close where a
+// type has facts beside its fields.
 impl PartialEq for Cell {
     ghost eq = { on (λ x. x.places) (pointwise nat_eq) };
 

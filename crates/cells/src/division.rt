@@ -6,6 +6,7 @@ ghost use Rattle.cells.specs.Runs.{Spanned, cell_at, first_run, joins, runs, wid
 ghost use Rattle.cells.specs.Cuttings.{AllShort, OneDivision};
 ghost use Rattle.cells.specs.Values.{all_text};
 
+use crate::runs::{Runs, is_cell};
 use codes::classes::{Class, class_of};
 use codes::verdicts::class_verdict;
 
@@ -17,6 +18,7 @@ pub struct Span {
 }
 
 // Whether a code of the second class belongs to the run of one of the first.
+#[tactic(auto, unfolding(crate::specs::Runs::joins))]
 fn joined(first: Class, second: Class) -> bool
     ensures { result ≡ joins first second }
 {
@@ -74,9 +76,9 @@ pub fn cell_at(codes: &[u8], j: usize) -> Option<Span>
 {
     let mut cells = 0;
     let mut start = 0;
-    while start < codes.len() {
-        let len = first_run_len(&codes[start..]);
-        if !class_of(codes[start]).is_control() {
+    for run in Runs::of(codes) {
+        let len = run.len();
+        if is_cell(run) {
             if cells == j {
                 return Some(Span { start, len });
             }

@@ -5,3 +5,4 @@ pub mod cell;
 pub mod contents;
 pub mod division;
 pub mod reading;
+pub mod runs;

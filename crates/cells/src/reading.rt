@@ -1,5 +1,6 @@
-// A cell as a person reads it.
+// Codes and cells as a person reads them.
 ghost use Rattle.std.specs.Prelude.{Some};
+ghost use Rattle.codes.specs.Hexes.{hexes};
 ghost use Rattle.cells.specs.Contents.{held};
 ghost use Rattle.cells.specs.Texts.{cell_text};
 
@@ -7,7 +8,23 @@ use crate::cell::Cell;
 use codes::hex::Hex;
 use std::fmt;
 
-// The codes in hexadecimal, one after the other, and a dot for a blank.
+// Codes that are shown in hexadecimal, one after the other.
+#[derive(Clone, Copy, Debug)]
+pub struct Codes<'a>(pub &'a [u8]);
+
+impl<'a> fmt::Display for Codes<'a> {
+    ghost output = { λ x. Some (hexes x.0.now) };
+
+    fn fmt<W: fmt::Write>(&self, f: &mut fmt::Formatter<W>) -> fmt::Result {
+        for code in self.0 {
+            let code = Hex(*code);
+            write!(f, "{code}")?;
+        }
+        Ok(())
+    }
+}
+
+// A cell's codes in hexadecimal, and a dot for a blank.
 impl fmt::Display for Cell {
     ghost output = { λ x. Some (cell_text (held x)) };
 
@@ -16,10 +33,7 @@ impl fmt::Display for Cell {
         if codes.is_empty() {
             return write!(f, ".");
         }
-        for code in codes {
-            let code = Hex(*code);
-            write!(f, "{code}")?;
-        }
-        Ok(())
+        let codes = Codes(codes);
+        write!(f, "{codes}")
     }
 }

@@ -1,46 +1,35 @@
-use Rattle.std.proofs.Common.{◌-◌, ◌<◌, true, false, sym, ap, ◌∙◌, arith}
-use Rattle.std.specs.List.{slice_get}
+use Rattle.std.proofs.Common.{◌≡◌, ◌+◌, length, Some, None, arith}
+use Rattle.std.proofs.lemmas.Grind.{common_steps}
 use Rattle.codes.specs.Classes.{class_of}
-use Rattle.cells.specs.Runs.{spans}
-use Rattle.cells.proofs.Fronts.{Turn, turn, spans_at, nth_here, nth_past_one, none_left}
-use Rattle.cells.proofs.Spans.{spanned}
+use Rattle.cells.specs.Runs.{cell_at, runs, spans}
+use Rattle.cells.proofs.Spans.{first_long, nth_past_one, spanned}
 use Rattle.cells.proofs.division.cell_at.Goals as goal
-use Rattle.cells.proofs.division.cell_at.Goals.{After-is_control, then-not-is_control+else-cells-j, else-not-is_control}
-
-here : (c : After-is_control) → Turn class_of c.args.codes.now c.loop-start.start c.first_run_len-len.result c.class_of.result
-here c = turn class_of _ _ _ _ 0 c.loop-start-test.true c.class_of.ensures.value c.first_run_len-len.ensures.value
+use Rattle.cells.proofs.division.cell_at.Goals.{then-is_cell+else-cells-j, else-is_cell}
 
 pub returns-then-cells-j : goal.returns-then-cells-j
 returns-then-cells-j c =
-    let t = here (goal.at.returns-then-cells-j c).After-is_control in
-    let value = sym (c.loop-start.invariant.3 ∙ ap (λ l. slice_get l (c.args.j - c.loop-start.cells)) (spans_at class_of t false c.if-not-is_control.ensures) ∙ nth_here _ _ _ _ c.if-cells-j.true) in
+    let value : Some (record { start = c.loop-run.start; len = _ }) ≡ cell_at class_of c.args.codes.now c.args.j = grind (arith, common_steps) in
     record { value = value; codes = spanned class_of c.args.codes.now c.args.j _ value }
 
-pub overflow_add-start : goal.overflow_add-start
-overflow_add-start c = let t = here (goal.at.overflow_add-start c).After-is_control in record { fits = omega arith }
-
-pub loop-start-smaller : goal.loop-start-smaller
-loop-start-smaller c = let t = here (goal.at.loop-start-smaller c).After-is_control in omega arith
-
-pub loop-start-preserved : goal.loop-start-preserved
-loop-start-preserved c =
-    let t = here (goal.at.loop-start-preserved c).After-is_control in
-    let n = c.loop-start.cells in
+pub loop-run-preserved : goal.loop-run-preserved
+loop-run-preserved c =
+    let n = c.loop-run.cells in
     let j = c.args.j in
-    let so_far = c.loop-start.invariant.3 in
-    elim c.if-not-is_control.branch [
-      | then-not-is_control+else-cells-j w ↦
-          let fewer : n < j = omega (arith, w.if-cells-j.false) in
+    let steps = c.in-Some.ensures.steps in
+    let long = first_long class_of _ _ _ steps in
+    elim c.if-is_cell.branch [
+      | then-is_cell+else-cells-j w ↦
           let is = w.cells-is in
-          let next = ap (λ l. slice_get l (j - n)) (spans_at class_of t false w.if-not-is_control.ensures) ∙ nth_past_one _ _ j n fewer in
-          (omega arith, omega arith, omega arith, cc)
-      | else-not-is_control w ↦
+          let cell = w.if-is_cell.ensures in
+          let next = nth_past_one (record { start = c.loop-run.start; len = length c.in-Some.run'.now }) (spans class_of (c.loop-run.start + length c.in-Some.run'.now) (runs class_of c.next.new.self.rest.now)) j n (omega (arith, w.if-cells-j.false)) in
+          (omega arith, omega arith, grind (arith, common_steps))
+      | else-is_cell w ↦
           let is = w.cells-is in
-          let next = ap (λ l. slice_get l (j - n)) (spans_at class_of t true w.if-not-is_control.ensures) in
-          (omega arith, omega arith, omega arith, cc)
+          let cell = w.if-is_cell.ensures in
+          (omega arith, omega arith, grind (arith, common_steps))
     ]
 
 pub returns : goal.returns
 returns c =
-    let value = sym (c.loop-start.invariant.3 ∙ ap (λ r. slice_get (spans class_of c.loop-start.start r) (c.args.j - c.loop-start.cells)) (none_left class_of c.args.codes.now c.loop-start.start c.loop-start-test.false)) in
+    let value : None ≡ cell_at class_of c.args.codes.now c.args.j = grind (arith, common_steps) in
     record { value = value; codes = spanned class_of c.args.codes.now c.args.j _ value }
