@@ -6,7 +6,7 @@ use crate::policy::Policy;
 use codes::verdicts::{Verdict, verdict_of};
 
 // How strictly two neighbours are checked, from 0 to 2.
-#[derive(Clone, Copy, Debug, PartialEq, Eq)]
+#[derive(Clone, Copy, Debug, PartialEq, Eq, PartialOrd, Ord)]
 pub enum Level {
     // 0: every pair is admitted.
     Passthrough,
@@ -30,7 +30,7 @@ pub struct LevelPolicy {
 }
 
 impl LevelPolicy {
-    // The policy of a level's number; one above 2 is taken as 2.
+    // The policy of a level's number; one above 2 is taken as 2, so this is no `TryFrom`, which would have to refuse it.
     pub fn new(number: u8) -> LevelPolicy
         ensures { result.level ≡ level_numbered number }
     {
@@ -52,10 +52,11 @@ impl LevelPolicy {
 impl Policy for LevelPolicy {
     ghost admitted = { λ p. level_pairs p.level };
 
+    #[tactic(auto, unfolding(crate::specs::Levels::level_pairs))]
     fn admits(&self, first: u8, second: u8) -> bool {
         match verdict_of(first, second) {
-            Verdict::StrictReject => self.level.number() < 2,
-            Verdict::Reject => self.level.number() < 1,
+            Verdict::StrictReject => self.level < Level::Strict,
+            Verdict::Reject => self.level < Level::Basic,
             Verdict::Accept | Verdict::Compose | Verdict::NoDisplay => true,
         }
     }

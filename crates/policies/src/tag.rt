@@ -18,6 +18,7 @@ fn is_sign(code: u8) -> bool
 impl Policy for TagPolicy {
     ghost admitted = { λ _. tag_pairs };
 
+    #[tactic(auto, unfolding(crate::specs::Tags::tag_pairs))]
     fn admits(&self, first: u8, second: u8) -> bool {
         is_sign(second) || (second == b'-' && is_sign(first))
     }
