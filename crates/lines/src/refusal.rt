@@ -3,6 +3,7 @@ ghost use Rattle.lines.specs.Refusals.{refusal_told};
 
 use faults::fault::Fault;
 use faults::layer::Layer;
+use std::error::Error;
 use std::fmt;
 
 // Each with its place in the line.
@@ -79,3 +80,5 @@ impl fmt::Display for Refusal {
         }
     }
 }
+
+impl Error for Refusal {}
