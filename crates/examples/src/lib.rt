@@ -1,9 +1,11 @@
 // Worked examples: a list that is shown to follow from the definitions, and tests that run the code.
 #![tactic(auto)]
 
-ghost use Rattle.std.specs.Prelude.{◌≡◌, false, length};
+ghost use Rattle.std.specs.Prelude.{◌≡◌, false, length, Decides};
 ghost use Rattle.std.specs.List.{AllByRecursion};
 ghost use Rattle.examples.specs.Examples.{Holds, examples};
+
+use codes::classes::Class;
 
 #[cfg(test)]
 mod on_panels;
@@ -16,11 +18,19 @@ pub fn worked_examples() -> usize
     16
 }
 
+// Whether two classes are the same: the derived `==` decides it.
+pub fn same_class(first: Class, second: Class) -> bool
+    ensures { Decides result (first ≡ second) }
+{
+    first == second
+}
+
 // The worked examples of docs/RULES.md that need neither panel nor editor, and cases at their edges.
 #[cfg(test)]
 mod tests {
     use cells::cell::Cell;
     use cells::division::{Span, cell_at, first_run_len, width};
+    use cells::runs::{Runs, is_cell};
     use codes::classes::{class_of, is_mark, is_text};
     use codes::levels::{DisplayLevel, level_of};
     use codes::verdicts::verdict_of;
@@ -68,18 +78,8 @@ mod tests {
 
     #[test]
     fn text_and_marks(rt: HostRuntime) {
-        let mut texts = 0u16;
-        let mut marks = 0u16;
-        for code in 0..=255u8 {
-            if is_text(code) {
-                texts = texts.saturating_add(1);
-            }
-            if is_mark(code) {
-                marks = marks.saturating_add(1);
-            }
-        }
-        assert_eq!(rt; texts, 184);
-        assert_eq!(rt; marks, 16);
+        assert_eq!(rt; (0..=255u8).filter(|code| is_text(*code)).count(), 184);
+        assert_eq!(rt; (0..=255u8).filter(|code| is_mark(*code)).count(), 16);
         assert!(rt; is_text(0xA0) && is_text(0xDC) && is_text(0xFB));
         assert!(rt; !is_text(0xDB) && !is_text(0xDD) && !is_text(0xFE) && !is_text(0xFF));
     }
@@ -125,6 +125,24 @@ mod tests {
         assert_eq!(rt; cell_at(&string, 1), Some(Span { start: 2, len: 3 }));
         assert_eq!(rt; cell_at(&string, 2), Some(Span { start: 5, len: 1 }));
         assert_eq!(rt; cell_at(&string, 3), None);
+    }
+
+    #[test]
+    fn runs(rt: HostRuntime) {
+        let mut runs = Runs::of(&[0x41, 0x0A, 0xA1, 0xD9, 0xE8, 0xD4]);
+        let expected: [(&[u8], bool); 4] = [
+            (&[0x41], true),
+            (&[0x0A], false),
+            (&[0xA1, 0xD9, 0xE8], true),
+            (&[0xD4], true),
+        ];
+        for (run, cell) in expected {
+            assert_eq!(rt; runs.next(), Some(run));
+            assert_eq!(rt; is_cell(run), cell);
+        }
+        assert!(rt; runs.next().is_none());
+        assert!(rt; Runs::of(&[]).next().is_none());
+        assert!(rt; !is_cell(&[]));
     }
 
     pub(crate) fn cell_of(codes: &[u8]) -> Result<Cell, Fail> {
@@ -241,10 +259,8 @@ mod tests {
     // Eighty cells of three codes, and one code more.
     fn full_line() -> [u8; 241] {
         let mut line = [0x41; 241];
-        for j in 0..80 {
-            line[3 * j] = 0xA1;
-            line[3 * j + 1] = 0xD9;
-            line[3 * j + 2] = 0xE8;
+        for cell in line[..240].chunks_exact_mut(3) {
+            cell.copy_from_slice(&[0xA1, 0xD9, 0xE8]);
         }
         line
     }
