@@ -3,7 +3,8 @@ ghost use Rattle.std.specs.Prelude.{◌≡◌, true};
 ghost use Rattle.cells.specs.Values.{filled, lawful, padded};
 
 // Blank, or one to three text codes in which each later code has verdict Compose after the one before it. The codes
-// fill three places from the first on, and 00 marks a place that is empty.
+// fill three places from the first on, and 00 marks a place that is empty. A panel keeps cells in fixed memory and copies
+// them, which an `ArrayVec` cannot be.
 #[derive(Clone, Copy, Debug)]
 pub struct Cell {
     pub(crate) places: [u8; 3],

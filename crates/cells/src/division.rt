@@ -10,7 +10,7 @@ use crate::runs::{Runs, is_cell};
 use codes::classes::{Class, class_of};
 use codes::verdicts::class_verdict;
 
-// Where a cell lies in its string: from `start` on, `len` codes.
+// Where a cell lies in its string: from `start` on, `len` codes. A `Range` would not be `Copy`.
 #[derive(Clone, Copy, Debug, PartialEq, Eq)]
 pub struct Span {
     pub start: usize,

@@ -63,6 +63,7 @@ static CLASSES: [Class; 256] = [
 ];
 
 impl Class {
+    // The standard's number, so it goes by that name; a `From<Class> for u8` would say it twice.
     pub fn number(self) -> u8
         ensures { result ≡ class_number self }
     {

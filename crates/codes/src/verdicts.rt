@@ -58,6 +58,7 @@ static TABLE: [Verdict; 289] = [
 ];
 
 impl Verdict {
+    // The letter of the standard's figure; a `From<Verdict> for char` would say it twice.
     pub fn letter(self) -> char
         ensures { result ≡ letter_of self }
     {

@@ -17,6 +17,7 @@ pub enum Level {
 }
 
 impl Level {
+    // The standard's number, so it goes by that name; a `From<Level> for u8` would say it twice.
     pub fn number(self) -> u8
         ensures { result ≡ level_number self }
     {

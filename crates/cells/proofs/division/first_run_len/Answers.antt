@@ -1,17 +1,13 @@
-use Rattle.std.proofs.Common.{ℕ, ◌-◌, true, false, List, length, take, drop, ap, arith, length-drop, ltb-false, ltb-true}
+use Rattle.std.proofs.Common.{ℕ, ◌-◌, false, List, length, take, drop, ap, arith, length-drop, ltb-false, ltb-true}
 use Rattle.std.proofs.lemmas.List.{at_drop_all, take_rest}
 use Rattle.codes.specs.Classes.{class_of}
-use Rattle.cells.proofs.Fronts.{front_first, front_none, more, more_at}
+use Rattle.cells.proofs.Fronts.{front_first, more, more_at}
 use Rattle.cells.proofs.Short.{runs_short}
 use Rattle.cells.proofs.division.first_run_len.Goals as goal
 
 -- what the pattern leaves after the first code
 abbrev rest : List ℕ → List ℕ
 rest s = take (length s - 1) (drop 1 s)
-
-pub returns-in_default : goal.returns-in_default
-returns-in_default c =
-    record { value = front_none class_of c.args.codes.now (omega (arith, ltb-true, ltb-false)); short = runs_short class_of c.args.codes.now }
 
 pub loop-i-init : goal.loop-i-init
 loop-i-init c =
@@ -23,12 +19,6 @@ returns-then-not-joined c =
     let s = c.args.codes.now in
     let next = more_at class_of c.loop-i.before (rest s) c.loop-i.i 0 _ false c.loop-i-test.true c.class_of-class.ensures.value c.if-not-joined.ensures in
     record { value = omega (arith, c.loop-i.invariant, next); short = runs_short class_of s }
-
-pub loop-i-preserved : goal.loop-i-preserved
-loop-i-preserved c =
-    let s = c.args.codes.now in
-    let next = more_at class_of c.loop-i.before (rest s) c.loop-i.i 0 _ true c.loop-i-test.true c.class_of-class.ensures.value c.if-not-joined.ensures in
-    omega (arith, c.loop-i.invariant, next)
 
 pub returns : goal.returns
 returns c =
