@@ -1,9 +1,10 @@
 -- A row that is given column by column, `map f (range_with_len 0 w)`.
-use Rattle.std.specs.Prelude.{◌≡◌, ℕ, zero, suc, ◌+◌, ◌<◌, List, [], ◌∷◌, map, replicate, Some, ◌≢◌, slice_index_or, slice_set, refl}
+use Rattle.std.specs.Prelude.{◌≡◌, ℕ, zero, suc, ◌+◌, ◌<◌, ◌≤◌, None, List, [], ◌∷◌, map, replicate, Some, ◌≢◌, slice_index_or, slice_set, refl}
 use Rattle.std.proofs.Common.{ap, sym, subst, ◌∙◌, ⊎_elim, arith}
 use Rattle.std.specs.List.{range_with_len, AllByRecursion, slice_get}
 use Rattle.std.proofs.lemmas.List.FromFn.{fill_by_all, get_or-map-range_with_len, length-map-range_with_len}
 use Rattle.std.proofs.lemmas.List.{get_or-set_other, get_or-set_same, length-set}
+use Rattle.std.proofs.lemmas.Option.{slice_get_past}
 use Rattle.std.proofs.lemmas.Bool.{cases_eq}
 
 module _ {X : Type 0} (f : ℕ → X) where
@@ -14,6 +15,9 @@ module _ {X : Type 0} (f : ℕ → X) where
 
   pub column_at : (w j : ℕ) → j < w → slice_get (map f (range_with_len 0 w)) j ≡ Some (f j)
   column_at w j h = column_from 0 w j j h (omega arith)
+
+  pub column_past : (w j : ℕ) → w ≤ j → slice_get (map f (range_with_len 0 w)) j ≡ None
+  column_past w j h = slice_get_past _ j (omega (arith, length-map-range_with_len f 0 w))
 
   pub same_columns : (x : X) (a n : ℕ) → ((j : ℕ) → f j ≡ x) → map f (range_with_len a n) ≡ replicate n x
   same_columns x a zero h = refl

@@ -1,5 +1,5 @@
 -- What four rows have in a column, and what a change of one column makes of it.
-use Rattle.std.proofs.Common.{◌≡◌, ℕ, zero, suc, ◌<◌, true, cond, List, [], length, get_or, set, replicate, Some, None, Option, sym, refl, ap, ◌∙◌, subst, ⊎_elim, arith, MatchOption}
+use Rattle.std.proofs.Common.{◌≡◌, ℕ, zero, suc, ◌<◌, true, cond, List, [], length, get_or, set, replicate, Some, None, Option, sym, refl, ap, ◌∙◌, subst, ⊎_elim, arith, IsSome, MatchOption}
 use Rattle.std.specs.Option.{option_map}
 use Rattle.std.proofs.lemmas.List.{get_or-set_other, get_or-set_same}
 use Rattle.std.proofs.lemmas.Bool.{cases_eq, cond-true}
@@ -78,16 +78,12 @@ found x o e y same = by o (e ∙ ap (λ s. cond (lawful s) (Some s) None) (ap ga
     by (Some z) is = let codes : held z ≡ held y = cc in ap Some (by_codes z y codes)
     by None is = cc
 
--- a column is read again as the cell that it shows
-pub read_again : (x : Stack) (r : Option Cell) (o : Option (List ℕ)) → MatchOption r ((y : Cell) → stack_of (held y) ≡ x → ⊥) (λ y. stack_of (held y) ≡ x) → Some x ≡ option_map stack_of o → ((s : List ℕ) → o ≡ Some s → lawful s ≡ true) → option_map held r ≡ o
-read_again x r None h e legal = cc
-read_again x (Some y) (Some s) h e legal =
-    let same : x ≡ stack_of s = cc in
-    ap Some (sym (held_again y) ∙ ap gathered (h ∙ same) ∙ gathered_again s (legal s refl))
-read_again x None (Some s) h e legal =
-    let same : x ≡ stack_of s = cc in
-    let some = holder s (legal s refl) in
-    absurd (h some.cell (ap stack_of some.holds ∙ sym same))
+-- some cell has the rows that the codes of a cell have
+pub proper_cell : (x : Stack) → Proper x → (r : Option Cell) → MatchOption r ((y : Cell) → stack_of (held y) ≡ x → ⊥) (λ y. stack_of (held y) ≡ x) → IsSome r
+proper_cell x proper (Some y) h = refl
+proper_cell x proper None h =
+    let some = holder (gathered x) proper.0 in
+    absurd (h some.cell (ap stack_of some.holds ∙ sym (proper_stack x proper)))
 
 pub not_found : (y : Cell) → ◌≡◌ {A = Option Cell} None (Some y) → ⊥
 not_found y e = let no_such : ◌≡◌ {A = ℕ} 0 1 = cc in omega arith

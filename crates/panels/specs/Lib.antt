@@ -1,6 +1,6 @@
 pub mod Grids
 pub mod Pictures
 pub mod Rows
+pub mod Ruled
 pub mod Screens
 pub mod Stacks
-pub mod Laws

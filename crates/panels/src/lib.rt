@@ -2,11 +2,13 @@
 #![tactic(auto)]
 
 pub mod grid;
-pub mod grid_panel;
 pub mod panel;
 pub mod picture;
 pub mod row;
-pub mod row_panel;
-mod ruler;
+pub mod ruled;
 pub mod stack;
 pub mod stacking;
+pub mod store;
+mod rows;
+mod ruler;
+mod table;

@@ -3,12 +3,12 @@ ghost use Rattle.std.specs.Prelude.{◌≡◌, ℕ, length};
 ghost use Rattle.panels.specs.Stacks.{Proper, stack_in};
 
 use crate::panel::MAX_COLUMNS;
-use crate::ruler::Ruler;
+use crate::ruled::Ruled;
 
 // A code for every column that a panel can have, at each of the four display levels; 00 marks an empty row. What lies in one
 // column is always a cell's codes, each in the row of its level.
 #[derive(Debug, Drop)]
-pub(crate) struct Rows {
+pub struct Rows {
     pub(crate) top: [u8; MAX_COLUMNS],
     pub(crate) above: [u8; MAX_COLUMNS],
     pub(crate) base: [u8; MAX_COLUMNS],
@@ -18,8 +18,4 @@ pub(crate) struct Rows {
 }
 
 // A panel that keeps four rows of codes.
-#[derive(Debug, Drop)]
-pub struct RowPanel {
-    pub(crate) rows: Rows,
-    pub(crate) ruler: Ruler,
-}
+pub type RowPanel = Ruled<Rows>;

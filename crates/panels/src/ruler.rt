@@ -1,8 +1,9 @@
 // How many columns a panel has, and where its cursor stands.
-ghost use Rattle.std.specs.Prelude.{◌≡◌, ◌≤◌, if◌then◌else◌, nat_le, nat_lt};
+ghost use Rattle.std.specs.Prelude.{◌≡◌, ◌≤◌, if◌then◌else◌, ◌<◌, nat_le, MatchOption};
 ghost use Rattle.panels.specs.Screens.{nearest};
 
 use crate::panel::MAX_COLUMNS;
+use crate::store::Column;
 
 #[derive(Debug, Drop)]
 pub(crate) struct Ruler {
@@ -24,11 +25,15 @@ impl Ruler {
         }
     }
 
-    // Whether there is a column `j`.
-    pub(crate) fn has(&self, j: usize) -> bool
-        ensures { result ≡ nat_lt j self.now.columns }
+    // Column `j`, if there is one.
+    pub(crate) fn column(&self, j: usize) -> Option<Column>
+        ensures { MatchOption result (self.now.columns ≤ j) (λ column. (column.index ≡ j) × (j < self.now.columns)) }
     {
-        j < self.columns
+        if j < self.columns {
+            Some(Column { index: j })
+        } else {
+            None
+        }
     }
 
     pub(crate) fn place_cursor(&mut self, place: usize) -> bool

@@ -1,0 +1,72 @@
+// How the four rows are read and changed.
+ghost use Rattle.std.specs.Prelude.{◌≡◌};
+ghost use Rattle.std.specs.Option.{option_map};
+ghost use Rattle.panels.specs.Rows.{row_screen, rows_held, rows_lawful, stack_at};
+ghost use Rattle.panels.specs.Screens.{column};
+ghost use Rattle.panels.specs.Stacks.{stack_of};
+
+use crate::panel::MAX_COLUMNS;
+use crate::row::{RowPanel, Rows};
+use crate::stack::Stack;
+use crate::store::{Column, Store};
+use cells::cell::Cell;
+
+impl Rows {
+    // What the rows have in a column.
+    fn stack(&self, column: Column) -> Stack
+        ensures { result ≡ stack_at self.now column.index }
+    {
+        let j = column.index;
+        Stack {
+            top: self.top[j],
+            above: self.above[j],
+            base: self.base[j],
+            below: self.below[j],
+        }
+    }
+}
+
+impl Store for Rows {
+    ghost held_at = { rows_held };
+
+    ghost each_lawful = { rows_lawful };
+
+    fn blank() -> Rows {
+        Rows {
+            top: [0; MAX_COLUMNS],
+            above: [0; MAX_COLUMNS],
+            base: [0; MAX_COLUMNS],
+            below: [0; MAX_COLUMNS],
+        }
+    }
+
+    fn read(&self, column: Column) -> Cell {
+        self.stack(column).cell().unwrap()
+    }
+
+    // Each of the cell's codes goes into the row of its level.
+    fn put(&mut self, column: Column, cell: Cell) {
+        let Stack {
+            top,
+            above,
+            base,
+            below,
+        } = Stack::of(&cell);
+        let j = column.index;
+        self.top[j] = top;
+        self.above[j] = above;
+        self.base[j] = base;
+        self.below[j] = below;
+    }
+}
+
+impl RowPanel {
+    // What the four rows have in column `j`: the codes of its cell, each in the row of its display level. None past the
+    // last column.
+    pub fn stack(&self, j: usize) -> Option<Stack>
+        ensures { result ≡ option_map stack_of (column (row_screen self.now) j) }
+    {
+        let column = self.ruler.column(j)?;
+        Some(self.store.stack(column))
+    }
+}
