@@ -1,6 +1,6 @@
 -- A cell's codes stand in it from the base outward, each at a level of its own: base, below, above, top. So each lies in the
 -- row of its level, and the rows give the cell again.
-use Rattle.std.proofs.Common.{◌≡◌, ℕ, zero, suc, ◌+◌, ◌<◌, ◌≤◌, true, not, ◌&&◌, ◌||◌, eqb, ltb, leb, List, [], ◌∷◌, length, get_or, sym, refl, ap, ◌∙◌, subst, ⊎_elim, arith}
+use Rattle.std.proofs.Common.{◌≡◌, ℕ, zero, suc, ◌+◌, ◌<◌, ◌≤◌, true, not, ◌&&◌, ◌||◌, eqb, ltb, leb, List, [], ◌∷◌, length, get_or, sym, refl, ap, ◌∙◌, subst, ⊎_elim, unwrap_or, arith}
 use Rattle.std.proofs.lemmas.Bool.{and_parts, cases_lt, cond-false, cond-true, eq-eqb, eqb-true, ltb-true, ne_eqb}
 use Rattle.codes.specs.declared.classes.Class.{Class}
 use Rattle.codes.specs.declared.levels.DisplayLevel.{DisplayLevel}
@@ -51,11 +51,11 @@ Rising n (c ∷ cs) = (n ≤ far c) × (far c < 4) × (0 < c) × Rising (suc (fa
 -- the first code at the level of rank n
 here : (n c : ℕ) (cs : List ℕ) → far c ≡ n → on_level (ranked n) (c ∷ cs) ≡ c
 unfolding far
-here n c cs e = cond-true _ _ _ (alike _ _ (sym (ranked_rank (level_of (class_of c))) ∙ ap ranked e))
+here n c cs e = ap (λ o. unwrap_or o 0) (cond-true _ _ _ (alike _ _ (sym (ranked_rank (level_of (class_of c))) ∙ ap ranked e)))
 
 not_here : (n c : ℕ) (cs : List ℕ) → n < 4 → (far c ≡ n → ⊥) → on_level (ranked n) (c ∷ cs) ≡ on_level (ranked n) cs
 unfolding far
-not_here n c cs h apart = cond-false _ _ _ (unlike _ _ (λ e. apart (ap rank e ∙ rank_ranked n h)))
+not_here n c cs h apart = ap (λ o. unwrap_or o 0) (cond-false _ _ _ (unlike _ _ (λ e. apart (ap rank e ∙ rank_ranked n h))))
 
 nothing : (n m : ℕ) (s : List ℕ) → n < m → Rising m s → on_level (ranked n) s ≡ 0
 nothing n m [] lt h = refl
@@ -77,11 +77,11 @@ rows_later (suc f) n c s e lt =
 
 present_code : (c : ℕ) (s : List ℕ) → 0 < c → present (c ∷ s) ≡ c ∷ present s
 unfolding present
-present_code c s h = cond-false _ _ _ (ne_eqb c 0 (λ e. omega (arith, e)))
+present_code c s h = cond-true _ _ _ (ap not (ne_eqb c 0 (λ e. omega (arith, e))))
 
 present_none : (c : ℕ) (s : List ℕ) → c ≡ 0 → present (c ∷ s) ≡ present s
 unfolding present
-present_none c s h = cond-true _ _ _ (eq-eqb c 0 h)
+present_none c s h = cond-false _ _ _ (ap not (eq-eqb c 0 h))
 
 present_end : present [] ≡ []
 unfolding present

@@ -1,8 +1,10 @@
 -- What four rows have in a column, and what a change of one column makes of it.
-use Rattle.std.proofs.Common.{◌≡◌, ℕ, zero, suc, ◌<◌, true, cond, List, [], length, get_or, set, replicate, Some, None, Option, sym, refl, ap, ◌∙◌, subst, ⊎_elim, arith, IsSome, MatchOption}
+use Rattle.std.proofs.Common.{◌≡◌, ℕ, zero, suc, ◌<◌, Bool, true, false, Decides, cond, List, [], length, get_or, set, replicate, Some, None, Option, sym, refl, ap, ◌∙◌, subst, ⊎_elim, arith, IsSome, MatchOption}
 use Rattle.std.specs.Option.{option_map}
 use Rattle.std.proofs.lemmas.List.{get_or-set_other, get_or-set_same}
-use Rattle.std.proofs.lemmas.Bool.{cases_eq, cond-true}
+use Rattle.std.specs.Bool.{then_some}
+use Rattle.std.proofs.lemmas.Option.{none-some, same_Some}
+use Rattle.std.proofs.lemmas.Bool.{both_ways, cases_eq, cond-true}
 use Rattle.codes.specs.declared.levels.DisplayLevel.TheVariants.{Top, Above, Base, Below}
 use Rattle.cells.specs.declared.cell.Cell.{Cell}
 use Rattle.cells.specs.Contents.{held}
@@ -78,12 +80,18 @@ found x o e y same = by o (e ∙ ap (λ s. cond (lawful s) (Some s) None) (ap ga
     by (Some z) is = let codes : held z ≡ held y = cc in ap Some (by_codes z y codes)
     by None is = cc
 
+-- the cell that is gathered is kept if it has the rows, and else no cell has them
+pub kept : {Says : Cell → Bool → Type 0} (x : Stack) (o r : Option Cell) → option_map held o ≡ cond (lawful (gathered x)) (Some (gathered x)) None → MatchOption o (r ≡ None) (λ y. (b : Bool) × Says y b × (r ≡ then_some b y)) → ((y : Cell) (b : Bool) → Says y b → Decides b (stack_of (held y) ≡ x)) → MatchOption r ((y : Cell) → stack_of (held y) ≡ x → ⊥) (λ y. stack_of (held y) ≡ x)
+kept x None r e gone says = rw gone (λ y same. let is = found x None e y same in absurd (none-some y is))
+kept x (Some z) r e (b, said, is) says = rw is (by b (says z b said))
+  where
+    by : (b : Bool) → Decides b (stack_of (held z) ≡ x) → MatchOption (then_some b z) ((y : Cell) → stack_of (held y) ≡ x → ⊥) (λ y. stack_of (held y) ≡ x)
+    by true d = d.0 refl
+    by false d = λ y same. let one : z ≡ y = same_Some z y (found x (Some z) e y same) in both_ways false refl (d.1 (ap (λ c. stack_of (held c)) one ∙ same))
+
 -- some cell has the rows that the codes of a cell have
 pub proper_cell : (x : Stack) → Proper x → (r : Option Cell) → MatchOption r ((y : Cell) → stack_of (held y) ≡ x → ⊥) (λ y. stack_of (held y) ≡ x) → IsSome r
 proper_cell x proper (Some y) h = refl
 proper_cell x proper None h =
     let some = holder (gathered x) proper.0 in
     absurd (h some.cell (ap stack_of some.holds ∙ sym (proper_stack x proper)))
-
-pub not_found : (y : Cell) → ◌≡◌ {A = Option Cell} None (Some y) → ⊥
-not_found y e = let no_such : ◌≡◌ {A = ℕ} 0 1 = cc in omega arith

@@ -1,5 +1,6 @@
 -- A cell's codes by display level: each lies in the row of its level, and 00 marks an empty row.
-use Rattle.std.specs.Prelude.{◌≡◌, ℕ, true, cond, List, [], ◌∷◌, ◌==◌, slice_index}
+use Rattle.std.specs.Prelude.{◌≡◌, ℕ, Bool, true, not, List, [], ◌∷◌, ◌==◌, filter, slice_index, unwrap_or}
+use Rattle.std.specs.List.{find}
 use Rattle.codes.specs.declared.levels.DisplayLevel.{DisplayLevel}
 use Rattle.codes.specs.declared.levels.DisplayLevel.TheVariants.{Nowhere, Top, Above, Base, Below}
 use Rattle.codes.specs.Classes.{class_of}
@@ -7,10 +8,13 @@ use Rattle.codes.specs.Levels.{level_of, same_level}
 use Rattle.cells.specs.Values.{lawful}
 use Rattle.panels.specs.declared.stack.Stack.{Stack}
 
+-- a code is shown at a level
+abbrev pub at_level : DisplayLevel → ℕ → Bool
+at_level l c = same_level (level_of (class_of c)) l
+
 -- the first of the codes that is shown at a level, or 00
 abbrev pub on_level : DisplayLevel → List ℕ → ℕ
-on_level l [] = 0
-on_level l (c ∷ cs) = cond (same_level (level_of (class_of c)) l) c (on_level l cs)
+on_level l cs = unwrap_or (find (at_level l) cs) 0
 
 unfoldable pub stack_of : List ℕ → Stack
 stack_of s = record { top = on_level Top s; above = on_level Above s; base = on_level Base s; below = on_level Below s }
@@ -25,8 +29,7 @@ in_row x Below = x.below
 
 -- without the marks of empty rows
 unfoldable pub present : List ℕ → List ℕ
-present [] = []
-present (c ∷ cs) = cond (c == 0) (present cs) (c ∷ present cs)
+present = filter (λ c. not (c == 0))
 
 -- the codes from the base outward
 unfoldable pub gathered : Stack → List ℕ

@@ -7,8 +7,5 @@ pub mod picture;
 pub mod row;
 pub mod ruled;
 pub mod stack;
-pub mod stacking;
 pub mod store;
-mod rows;
 mod ruler;
-mod table;

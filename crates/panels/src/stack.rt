@@ -1,12 +1,20 @@
-// The codes of one cell by display level. It stands alone here, since what its contracts cite names it.
-ghost use Rattle.std.specs.Prelude.{◌≡◌, Decides, nat_eq};
-ghost use Rattle.std.specs.Ordering.{on, eq_of_both};
-ghost use Rattle.std.specs.Cmp.Rules.{comparing};
-ghost use Rattle.std.proofs.Common.{rules};
-ghost use Rattle.std.specs.Cmp as Keys;
+// The codes of one cell by display level.
+ghost use Rattle.std.specs.Prelude.{Decides, ◌≡◌, ℕ, if◌then◌else◌, Some, None, MatchOption, ◌≢◌};
+ghost use Rattle.std.specs.Option.{option_map};
+ghost use Rattle.codes.specs.Classes.{class_of};
+ghost use Rattle.codes.specs.Levels.{level_of};
+ghost use Rattle.cells.specs.declared.cell.Cell.{Cell};
+ghost use Rattle.cells.specs.Contents.{Member, held};
+ghost use Rattle.cells.specs.Values.{lawful};
+ghost use Rattle.panels.specs.Stacks.{at_level, gathered, in_row, on_level, stack_of};
+
+use arrayvec::ArrayVec;
+use cells::cell::Cell;
+use codes::classes::class_of;
+use codes::levels::{DisplayLevel, level_of};
 
 // What each of the four rows has in one column; 00 marks an empty row.
-#[derive(Clone, Copy, Debug)]
+#[derive(Clone, Copy, Debug, PartialEq, Eq)]
 pub struct Stack {
     pub top: u8,
     pub above: u8,
@@ -14,23 +22,61 @@ pub struct Stack {
     pub below: u8,
 }
 
-// Written out, so that its clause says that it decides which stacks are the same.
-impl PartialEq for Stack {
-    ghost eq = { eq_of_both (on (λ v. v.top) nat_eq) (eq_of_both (on (λ v. v.above) nat_eq) (eq_of_both (on (λ v. v.base) nat_eq) (on (λ v. v.below) nat_eq))) };
-
-    ghost laws = { Keys.partial_equiv_from_equiv (Prim.search (comparing, rules)) };
-
-    fn eq(&self, other: &Stack) -> bool
-        ensures value { result ≡ eq_of_both (on (λ v. v.top) nat_eq) (eq_of_both (on (λ v. v.above) nat_eq) (eq_of_both (on (λ v. v.base) nat_eq) (on (λ v. v.below) nat_eq))) self.now other.now }
-        ensures decides { Decides result (self.now ≡ other.now) }
-    {
-        self.top == other.top
-            && self.above == other.above
-            && self.base == other.base
-            && self.below == other.below
-    }
+// Whether a code is shown at a level.
+fn is_at_level(level: DisplayLevel, code: u8) -> bool
+    ensures { result ≡ at_level level code }
+{
+    level_of(class_of(code)) == level
 }
 
-impl Eq for Stack {
-    ghost laws = { Prim.search (comparing, rules) };
+// The first of the codes that is shown at a level, or 00.
+fn on_level(level: DisplayLevel, codes: &[u8]) -> u8
+    ensures { result ≡ on_level level codes.now }
+{
+    codes
+        .iter()
+        .find(|code| is_at_level(level, **code))
+        .copied()
+        .unwrap_or(0)
+}
+
+impl Stack {
+    // A cell's codes, each in the row of its display level. No other cell has the same rows.
+    pub fn of(cell: &Cell) -> Stack
+        ensures value { result ≡ stack_of (held cell.now) }
+        ensures each { (code : ℕ) → Member code (held cell.now) → in_row result (level_of (class_of code)) ≡ code }
+        ensures again { gathered result ≡ held cell.now }
+        ensures only { (other : Cell) → stack_of (held other) ≡ result → other ≡ cell.now }
+    {
+        let codes = cell.codes();
+        Stack {
+            top: on_level(DisplayLevel::Top, codes),
+            above: on_level(DisplayLevel::Above, codes),
+            base: on_level(DisplayLevel::Base, codes),
+            below: on_level(DisplayLevel::Below, codes),
+        }
+    }
+
+    // The cell that has these rows, or none where no cell has.
+    pub fn cell(&self) -> Option<Cell>
+        ensures { MatchOption result ((x : Cell) → stack_of (held x) ≢ self.now) (λ x. stack_of (held x) ≡ self.now) }
+    {
+        self.gather().filter(|cell| self.is_of(cell))
+    }
+
+    // Whether these are the rows of a cell.
+    fn is_of(&self, cell: &Cell) -> bool
+        ensures { Decides result (stack_of (held cell.now) ≡ self.now) }
+    {
+        Stack::of(cell) == *self
+    }
+
+    // The cell of the codes in the rows, from the base outward; none where no cell may hold them.
+    fn gather(&self) -> Option<Cell>
+        ensures { option_map held result ≡ (if lawful (gathered self.now) then Some (gathered self.now) else None) }
+    {
+        let mut codes = ArrayVec::from([self.base, self.below, self.above, self.top]);
+        codes.retain(|code| *code != 0);
+        Cell::new(&codes)
+    }
 }

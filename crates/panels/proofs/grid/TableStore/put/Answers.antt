@@ -1,7 +1,7 @@
 use Rattle.std.proofs.Common.{List, [], map, ap, ◌∙◌, get_or, arith}
 use Rattle.std.proofs.lemmas.List.{get_or-set_other, get_or-set_same, length-map, map-set}
 use Rattle.cells.specs.Contents.{held}
-use Rattle.panels.proofs.table.TableStore.put.Goals as goal
+use Rattle.panels.proofs.grid.TableStore.put.Goals as goal
 
 pub returns-clause-here : goal.returns-clause-here
 returns-clause-here c =

@@ -1,7 +1,7 @@
 use Rattle.std.proofs.Common.{sym, arith}
 use Rattle.std.proofs.lemmas.List.{get_or-map}
 use Rattle.cells.specs.Contents.{held}
-use Rattle.panels.proofs.table.TableStore.read.Goals as goal
+use Rattle.panels.proofs.grid.TableStore.read.Goals as goal
 
 pub returns : goal.returns
 returns c =

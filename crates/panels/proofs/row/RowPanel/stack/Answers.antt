@@ -4,7 +4,7 @@ use Rattle.panels.specs.Rows.{rows_held, stack_at}
 use Rattle.panels.specs.Stacks.{stack_of}
 use Rattle.panels.proofs.Columns.{column_at, column_past}
 use Rattle.panels.proofs.Stacked.{proper_stack}
-use Rattle.panels.proofs.rows.RowPanel.stack.Goals as goal
+use Rattle.panels.proofs.row.RowPanel.stack.Goals as goal
 
 pub returns-in_err-column : goal.returns-in_err-column
 returns-in_err-column c =
