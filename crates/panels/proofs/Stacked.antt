@@ -1,5 +1,5 @@
 -- What four rows have in a column, and what a change of one column makes of it.
-use Rattle.std.proofs.Common.{◌≡◌, ℕ, zero, suc, ◌<◌, Bool, true, false, Decides, cond, List, [], length, get_or, set, replicate, Some, None, Option, sym, refl, ap, ◌∙◌, subst, ⊎_elim, arith, IsSome, MatchOption}
+use Rattle.std.proofs.Common.{◌≡◌, ℕ, zero, suc, ◌<◌, Bool, true, false, Decides, cond, List, [], length, get_or, set, replicate, Some, None, Option, sym, refl, ap, ◌∙◌, subst, ⊎_elim, IsSome, MatchOption}
 use Rattle.std.specs.Option.{option_map}
 use Rattle.std.proofs.lemmas.List.{get_or-set_other, get_or-set_same}
 use Rattle.std.specs.Bool.{then_some}
@@ -12,7 +12,7 @@ use Rattle.cells.specs.Values.{lawful}
 use Rattle.cells.proofs.Same.{by_codes, held_lawful, holder}
 use Rattle.panels.specs.declared.stack.Stack.{Stack}
 use Rattle.panels.specs.Stacks.{Proper, gathered, on_level, present, stack_in, stack_of}
-use Rattle.panels.proofs.Outward.{gathered_again, held_again, stack_rows}
+use Rattle.panels.proofs.Outward.{held_again, stack_rows}
 
 pub proper_stack : (x : Stack) → Proper x → x ≡ stack_of (gathered x)
 proper_stack x h = stack_rows refl h.1 h.2 h.3 h.4

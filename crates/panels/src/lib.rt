@@ -6,6 +6,6 @@ pub mod panel;
 pub mod picture;
 pub mod row;
 pub mod ruled;
+mod ruler;
 pub mod stack;
 pub mod store;
-mod ruler;

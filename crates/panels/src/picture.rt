@@ -23,13 +23,13 @@ impl<'a, N: Panel> fmt::Display for Picture<'a, N> {
 
     fn fmt<W: fmt::Write>(&self, f: &mut fmt::Formatter<W>) -> fmt::Result {
         let cursor = self.panel.cursor();
-        let mut j = 0;
-        while let Some(cell) = self.panel.read(j) {
+        let columns = self.panel.columns();
+        for j in 0..columns {
             let bar = bar_at(j, cursor);
+            let cell = self.panel.read(j).unwrap();
             write!(f, "{bar}{cell}")?;
-            j += 1;
         }
-        let bar = bar_at(j, cursor);
+        let bar = bar_at(columns, cursor);
         write!(f, "{bar}")
     }
 }

@@ -1,4 +1,4 @@
-use Rattle.std.proofs.Common.{List, [], map, ap, ◌∙◌, get_or, arith}
+use Rattle.std.proofs.Common.{[], map, ap, ◌∙◌, get_or, arith}
 use Rattle.std.proofs.lemmas.List.{get_or-set_other, get_or-set_same, length-map, map-set}
 use Rattle.cells.specs.Contents.{held}
 use Rattle.panels.proofs.grid.TableStore.put.Goals as goal

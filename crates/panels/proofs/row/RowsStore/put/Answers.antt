@@ -1,6 +1,5 @@
 use Rattle.std.proofs.Common.{sym, ap, ◌∙◌, subst, arith, length-set}
 use Rattle.panels.specs.Stacks.{Proper, gathered}
-use Rattle.panels.proofs.Outward.{held_again}
 use Rattle.panels.proofs.Stacked.{cell_proper, changed_here, changed_proper, changed_there}
 use Rattle.panels.proofs.row.RowsStore.put.Goals as goal
 

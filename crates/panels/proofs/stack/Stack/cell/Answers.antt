@@ -1,4 +1,4 @@
-use Rattle.std.proofs.Common.{rules, tests}
+use Rattle.std.proofs.Common.{rules}
 use Rattle.panels.proofs.Stacked.{kept}
 use Rattle.panels.proofs.stack.Stack.cell.Goals as goal
 
