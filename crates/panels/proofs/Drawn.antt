@@ -1,16 +1,11 @@
 -- A picture that is drawn column by column.
-use Rattle.std.proofs.Common.{◌≡◌, ℕ, ◌+◌, ◌<◌, Bool, true, false, eqb, List, [], ◌∷◌, ◌++◌, length, get_or, drop, Some, None, IsSome, Option, sym, refl, ap, ◌∙◌, append_assoc, arith}
+use Rattle.std.proofs.Common.{◌≡◌, ℕ, ◌+◌, ◌<◌, Bool, true, false, eqb, List, [], ◌∷◌, ◌++◌, length, get_or, drop, sym, refl, ap, ◌∙◌, append_assoc, arith}
 use lib.Utf8.{encode}
 use Rattle.std.specs.declared.fmt.Formatter.{Formatter}
-use Rattle.std.specs.List.{slice_get}
-use Rattle.std.specs.Option.{option_map}
 use Rattle.std.specs.Fmt.{IsPlainFormatter, HasWritten}
 use Rattle.std.proofs.lemmas.Grind.{put_two}
 use Rattle.std.proofs.lemmas.List.{at_drop_more}
-use Rattle.std.proofs.lemmas.Option.{none-some, same_Some, slice_get-get_or}
 use Rattle.std.proofs.lemmas.Str.{encode_ascii}
-use Rattle.cells.specs.declared.cell.Cell.{Cell}
-use Rattle.cells.specs.Contents.{held}
 use Rattle.cells.specs.Texts.{cell_text}
 use Rattle.panels.specs.Pictures.{bar, columns_text}
 
@@ -35,18 +30,7 @@ module _ {W : Type 0} (took : W → List ℕ → W → Type 0) where
   pub drawn_last : {f g : Formatter W} (h : Formatter W) {rest whole : List ℕ} (piece : List ℕ) → Drawn took f g rest whole → HasWritten took g piece h → rest ≡ piece → HasWritten took f whole h
   drawn_last {f = f} {g = g} h {whole = whole} piece d p e = put_two took f g h d.text piece whole d.put p (ap (λ t. d.text ++ t) (sym e) ∙ d.is)
 
--- the cell that is read in column j
-
-pub cell_read : (row : List (List ℕ)) (j : ℕ) (r : Option Cell) → j < length row → option_map held r ≡ slice_get row j → IsSome r
-cell_read row j (Some x) within is = refl
-cell_read row j None within is = absurd (none-some (get_or row j []) (is ∙ slice_get-get_or row j [] within))
-
-pub cell_is : (row : List (List ℕ)) (j : ℕ) (r : Option Cell) (x : Cell) → j < length row → option_map held r ≡ slice_get row j → r ≡ Some x → get_or row j [] ≡ held x
-cell_is row j r x within is e =
-    let at = slice_get-get_or row j [] within in
-    let same : Some (get_or row j []) ≡ Some (held x) = sym at ∙ sym is ∙ ap (option_map held) e in
-    same_Some _ _ same
-
+-- the columns from j on
 pub columns_more : (cursor j : ℕ) (row : List (List ℕ)) (x : List ℕ) → j < length row → get_or row j [] ≡ x → columns_text cursor j (drop j row) ≡ (bar (eqb j cursor) ∷ cell_text x) ++ columns_text cursor (j + 1) (drop (j + 1) row)
 columns_more cursor j row x within is =
     at_drop_more (columns_text cursor j) row j [] within ∙ ap (λ y. bar (eqb j cursor) ∷ (cell_text y ++ columns_text cursor (j + 1) (drop (j + 1) row))) is

@@ -1,9 +1,19 @@
--- The codes of the cells in a table.
-use Rattle.std.specs.Prelude.{◌≡◌, ℕ, zero, suc, [], map, replicate, slice_index_or, refl}
-use Rattle.cells.specs.declared.cell.Cell.{Cell}
+-- What the grid panel shows, said of its table as a whole: the first cells, as many as the panel has columns.
+use Rattle.std.proofs.Common.{◌≡◌, [], map, take, get_or, sym, ap, ◌∙◌, arith}
+use Rattle.std.proofs.lemmas.List.{get_or-take, length-map, length-take-le, take-map}
+use Rattle.std.proofs.lemmas.List.FromFn.{fill_by_all}
 use Rattle.cells.specs.Contents.{held}
+use Rattle.panels.specs.declared.grid.Table.{Table}
+use Rattle.panels.specs.declared.ruled.Ruled.{Ruled}
+use Rattle.panels.specs.Grids.{grid_screen, table_held}
+use Rattle.panels.specs.Screens.{screen_of}
 
-pub blank_held : (n : ℕ) (blank : Cell) → held blank ≡ [] → (j : ℕ) → slice_index_or (map held (replicate n blank)) j [] ≡ []
-blank_held zero blank e j = refl
-blank_held (suc n) blank e zero = e
-blank_held (suc n) blank e (suc j) = blank_held n blank e j
+pub first_cells : (p : Ruled Table) → grid_screen p ≡ screen_of p.ruler.columns (map held (take p.ruler.columns p.store.cells)) p.ruler.cursor
+first_cells p =
+    let w = p.ruler.columns in
+    let cells = p.store.cells in
+    let full = p.store.full in
+    let few = p.ruler.few in
+    let firsts = map held (take w cells) in
+    ap (λ row. screen_of w row p.ruler.cursor)
+    (sym (fill_by_all (table_held p.store) firsts w [] (length-map (take w cells) held ∙ length-take-le w cells (omega arith)) (λ k lt. ap (λ row. get_or row k []) (sym (take-map held w cells)) ∙ get_or-take w (map held cells) k [] lt)))

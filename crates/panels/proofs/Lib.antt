@@ -1,4 +1,4 @@
-pub mod Changes
+pub mod Alike
 pub mod Columns
 pub mod Drawn
 pub mod Firsts

@@ -16,7 +16,6 @@ use Rattle.cells.specs.Contents.{Member, held}
 use Rattle.cells.specs.Runs.{joins}
 use Rattle.cells.specs.Values.{all_text, chained, lawful}
 use Rattle.cells.proofs.Same.{held_lawful}
-use Rattle.panels.specs.declared.stack.Stack.{Stack}
 use Rattle.panels.specs.Stacks.{gathered, in_row, on_level, present, stack_of}
 
 -- how far out a level lies; 4 is nowhere
@@ -170,8 +169,3 @@ each_in_row c s e m = rank_row s (level_of (class_of c)) (risen 0 c s (rises s e
 
 pub held_again : (x : Cell) → gathered (stack_of (held x)) ≡ held x
 held_again x = gathered_again (held x) (held_lawful x)
-
--- four rows, each found in the codes of a cell
-pub stack_rows : {s t : List ℕ} {a b c d : ℕ} → s ≡ t → a ≡ on_level Top s → b ≡ on_level Above s → c ≡ on_level Base s → d ≡ on_level Below s → ◌≡◌ {A = Stack} (record { top = a; above = b; base = c; below = d }) (stack_of t)
-unfolding stack_of
-stack_rows e p q r v = (λ i. record { top = p i; above = q i; base = r i; below = v i }) ∙ ap stack_of e

@@ -1,39 +1,32 @@
 -- What four rows have in a column, and what a change of one column makes of it.
-use Rattle.std.proofs.Common.{◌≡◌, ℕ, zero, suc, ◌<◌, Bool, true, false, Decides, cond, List, [], length, get_or, set, replicate, Some, None, Option, sym, refl, ap, ◌∙◌, subst, ⊎_elim, IsSome, MatchOption}
+use Rattle.std.proofs.Common.{◌≡◌, ℕ, ◌<◌, Bool, true, false, Decides, cond, List, [], set, replicate, Some, None, Option, sym, refl, ap, ◌∙◌, subst, ⊎_elim, arith, IsSome, MatchOption}
 use Rattle.std.specs.Option.{option_map}
 use Rattle.std.proofs.lemmas.List.{get_or-set_other, get_or-set_same}
 use Rattle.std.specs.Bool.{then_some}
 use Rattle.std.proofs.lemmas.Option.{none-some, same_Some}
 use Rattle.std.proofs.lemmas.Bool.{both_ways, cases_eq, cond-true}
-use Rattle.codes.specs.declared.levels.DisplayLevel.TheVariants.{Top, Above, Base, Below}
 use Rattle.cells.specs.declared.cell.Cell.{Cell}
 use Rattle.cells.specs.Contents.{held}
 use Rattle.cells.specs.Values.{lawful}
 use Rattle.cells.proofs.Same.{by_codes, held_lawful, holder}
+use Rattle.panels.specs.declared.row.Rows.{Rows}
 use Rattle.panels.specs.declared.stack.Stack.{Stack}
-use Rattle.panels.specs.Stacks.{Proper, gathered, on_level, present, stack_in, stack_of}
-use Rattle.panels.proofs.Outward.{held_again, stack_rows}
-
-pub proper_stack : (x : Stack) → Proper x → x ≡ stack_of (gathered x)
-proper_stack x h = stack_rows refl h.1 h.2 h.3 h.4
+use Rattle.panels.specs.Rows.{stack_at}
+use Rattle.panels.specs.Stacks.{Proper, gathered, present, stack_in, stack_of}
+use Rattle.panels.proofs.Alike.{alike_everywhere}
+use Rattle.panels.proofs.Outward.{held_again}
 
 stack_proper : (s : List ℕ) → lawful s ≡ true → s ≡ gathered (stack_of s) → Proper (stack_of s)
-unfolding stack_of
-stack_proper s e again = (ap lawful (sym again) ∙ e, ap (on_level Top) again, ap (on_level Above) again, ap (on_level Base) again, ap (on_level Below) again)
+stack_proper s e again = (ap lawful (sym again) ∙ e, ap stack_of again)
 
 pub cell_proper : (x : Cell) → Proper (stack_of (held x))
 cell_proper x = stack_proper (held x) (held_lawful x) (sym (held_again x))
 
 -- rows of 00
 
-get_d_empty : (n j : ℕ) → ◌≡◌ {A = ℕ} (get_or (replicate n 0) j 0) 0
-get_d_empty zero j = refl
-get_d_empty (suc n) zero = refl
-get_d_empty (suc n) (suc j) = get_d_empty n j
-
 pub empty_rows : (j : ℕ) → stack_in (replicate 80 0) (replicate 80 0) (replicate 80 0) (replicate 80 0) j ≡ stack_of []
 unfolding stack_of
-empty_rows j = let e = get_d_empty 80 j in λ i. record { top = e i; above = e i; base = e i; below = e i }
+empty_rows j = let e = alike_everywhere 80 j 0 in λ i. record { top = e i; above = e i; base = e i; below = e i }
 
 pub empty_gathered : gathered (stack_of []) ≡ []
 unfolding gathered stack_of present
@@ -44,31 +37,32 @@ empty_proper = stack_proper [] refl (sym empty_gathered)
 
 -- rows with one column changed
 
-module _ (t a b w : List ℕ) (j : ℕ) (x : Stack) (long : (j < length t) × (j < length a) × (j < length b) × (j < length w)) where
+module _ (r : Rows) (j : ℕ) (within : j < 80) (x : Stack) where
   abbrev pub changed : ℕ → Stack
-  changed = stack_in (set t j x.top) (set a j x.above) (set b j x.base) (set w j x.below)
+  changed = stack_in (set r.top j x.top) (set r.above j x.above) (set r.base j x.base) (set r.below j x.below)
 
   pub changed_here : changed j ≡ x
   changed_here =
+      let long = r.long in
       λ i. record {
-        top = get_or-set_same t j x.top 0 long.0 i;
-        above = get_or-set_same a j x.above 0 long.1 i;
-        base = get_or-set_same b j x.base 0 long.2 i;
-        below = get_or-set_same w j x.below 0 long.3 i;
+        top = get_or-set_same r.top j x.top 0 (omega arith) i;
+        above = get_or-set_same r.above j x.above 0 (omega arith) i;
+        base = get_or-set_same r.base j x.base 0 (omega arith) i;
+        below = get_or-set_same r.below j x.below 0 (omega arith) i;
       }
 
-  pub changed_there : (k : ℕ) → (k ≡ j → ⊥) → changed k ≡ stack_in t a b w k
+  pub changed_there : (k : ℕ) → (k ≡ j → ⊥) → changed k ≡ stack_at r k
   changed_there k apart =
       λ i. record {
-        top = get_or-set_other t j k x.top 0 apart i;
-        above = get_or-set_other a j k x.above 0 apart i;
-        base = get_or-set_other b j k x.base 0 apart i;
-        below = get_or-set_other w j k x.below 0 apart i;
+        top = get_or-set_other r.top j k x.top 0 apart i;
+        above = get_or-set_other r.above j k x.above 0 apart i;
+        base = get_or-set_other r.base j k x.base 0 apart i;
+        below = get_or-set_other r.below j k x.below 0 apart i;
       }
 
-  pub changed_proper : Proper x → ((k : ℕ) → Proper (stack_in t a b w k)) → (k : ℕ) → Proper (changed k)
-  changed_proper new old k =
-      ⊎_elim (λ e. subst Proper (sym (ap changed e ∙ changed_here)) new) (λ apart. subst Proper (sym (changed_there k apart)) (old k)) (cases_eq k j)
+  pub changed_proper : Proper x → (k : ℕ) → Proper (changed k)
+  changed_proper new k =
+      ⊎_elim (λ e. subst Proper (sym (ap changed e ∙ changed_here)) new) (λ apart. subst Proper (sym (changed_there k apart)) (r.proper k)) (cases_eq k j)
 
 -- a stack and the cell that has it
 
@@ -94,4 +88,4 @@ pub proper_cell : (x : Stack) → Proper x → (r : Option Cell) → MatchOption
 proper_cell x proper (Some y) h = refl
 proper_cell x proper None h =
     let some = holder (gathered x) proper.0 in
-    absurd (h some.cell (ap stack_of some.holds ∙ sym (proper_stack x proper)))
+    absurd (h some.cell (ap stack_of some.holds ∙ sym proper.1))

@@ -1,4 +1,5 @@
 pub mod Grids
+pub mod Laws
 pub mod Pictures
 pub mod Rows
 pub mod Ruled

@@ -1,6 +1,5 @@
 -- What the row panel shows: in each column the codes that the four rows have there.
-use Rattle.std.specs.Prelude.{◌≡◌, ℕ, true, List}
-use Rattle.cells.specs.Values.{lawful}
+use Rattle.std.specs.Prelude.{ℕ, List}
 use Rattle.panels.specs.declared.row.Rows.{Rows}
 use Rattle.panels.specs.declared.ruled.Ruled.{Ruled}
 use Rattle.panels.specs.declared.stack.Stack.{Stack}
@@ -11,11 +10,9 @@ use Rattle.panels.specs.Stacks.{gathered, stack_in}
 abbrev pub stack_at : Rows → ℕ → Stack
 stack_at r j = stack_in r.top r.above r.base r.below j
 
+-- the codes that the rows have in column j
 abbrev pub rows_held : Rows → ℕ → List ℕ
 rows_held r j = gathered (stack_at r j)
 
 abbrev pub row_screen : Ruled Rows → Screen
 row_screen = ruled_screen rows_held
-
-pub rows_lawful : (r : Rows) (j : ℕ) → lawful (rows_held r j) ≡ true
-rows_lawful r j = (r.proper j).0

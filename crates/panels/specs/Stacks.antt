@@ -41,9 +41,4 @@ stack_in top above base below j = record { top = slice_index top j; above = slic
 
 -- the rows have the codes of a cell, each in the row of its level
 abbrev pub Proper : Stack → Type 0
-Proper x =
-    (lawful (gathered x) ≡ true)
-    × (x.top ≡ on_level Top (gathered x))
-    × (x.above ≡ on_level Above (gathered x))
-    × (x.base ≡ on_level Base (gathered x))
-    × (x.below ≡ on_level Below (gathered x))
+Proper x = (lawful (gathered x) ≡ true) × (x ≡ stack_of (gathered x))

@@ -17,7 +17,8 @@ pub struct Table {
 pub type GridPanel = Ruled<Table>;
 
 impl Store for Table {
-    ghost use Rattle.panels.specs.Grids.{table_held, table_lawful};
+    ghost use Rattle.panels.specs.Grids.{table_held};
+    ghost use Rattle.panels.specs.Laws.{table_lawful};
 
     ghost held_at = { table_held };
 

@@ -26,6 +26,7 @@ impl<'a, N: Panel> fmt::Display for Picture<'a, N> {
         let columns = self.panel.columns();
         for j in 0..columns {
             let bar = bar_at(j, cursor);
+            // Each column has a cell.
             let cell = self.panel.read(j).unwrap();
             write!(f, "{bar}{cell}")?;
         }

@@ -10,9 +10,9 @@ use cells::cell::Cell;
 
 // A code for every column that a panel can have, at each of the four display levels; 00 marks an empty row. What lies in one
 // column is always a cell's codes, each in the row of its level.
+// There are four arrays, since a device has four rows, one for each display level.
 #[derive(Debug, Drop)]
 pub struct Rows {
-    // Four arrays, since a device has four rows, one for each display level.
     pub(crate) top: [u8; MAX_COLUMNS],
     pub(crate) above: [u8; MAX_COLUMNS],
     pub(crate) base: [u8; MAX_COLUMNS],
@@ -42,7 +42,8 @@ impl Rows {
 }
 
 impl Store for Rows {
-    ghost use Rattle.panels.specs.Rows.{rows_held, rows_lawful};
+    ghost use Rattle.panels.specs.Rows.{rows_held};
+    ghost use Rattle.panels.specs.Laws.{rows_lawful};
 
     ghost held_at = { rows_held };
 
@@ -58,6 +59,7 @@ impl Store for Rows {
     }
 
     fn read(&self, column: Column) -> Cell {
+        // What lies in a column is always a cell's codes.
         self.stack(column).cell().unwrap()
     }
 

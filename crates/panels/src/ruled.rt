@@ -1,6 +1,7 @@
-// A panel that keeps its cells in a store: only the columns up to its last are seen.
+// A panel that keeps its cells in a store.
 ghost use Rattle.std.specs.Prelude.{◌≡◌};
-ghost use Rattle.panels.specs.Ruled.{ruled_screen, ruled_lawful};
+ghost use Rattle.panels.specs.Laws.{ruled_lawful};
+ghost use Rattle.panels.specs.Ruled.{ruled_screen};
 ghost use Rattle.panels.specs.Screens.{blank_of, nearest};
 
 use crate::panel::Panel;
@@ -8,6 +9,7 @@ use crate::ruler::Ruler;
 use crate::store::Store;
 use cells::cell::Cell;
 
+// The store has a cell for every column that a panel can have; only those up to the panel's last are seen.
 #[derive(Debug, Drop)]
 pub struct Ruled<S> {
     pub(crate) store: S,

@@ -6,7 +6,7 @@ ghost use Rattle.codes.specs.Levels.{level_of};
 ghost use Rattle.cells.specs.declared.cell.Cell.{Cell};
 ghost use Rattle.cells.specs.Contents.{Member, held};
 ghost use Rattle.cells.specs.Values.{lawful};
-ghost use Rattle.panels.specs.Stacks.{at_level, gathered, in_row, on_level, stack_of};
+ghost use Rattle.panels.specs.Stacks.{gathered, in_row, on_level, stack_of};
 
 use arrayvec::ArrayVec;
 use cells::cell::Cell;
@@ -22,20 +22,13 @@ pub struct Stack {
     pub below: u8,
 }
 
-// Whether a code is shown at a level.
-fn is_at_level(level: DisplayLevel, code: u8) -> bool
-    ensures { result ≡ at_level level code }
-{
-    level_of(class_of(code)) == level
-}
-
 // The first of the codes that is shown at a level, or 00.
 fn on_level(level: DisplayLevel, codes: &[u8]) -> u8
     ensures { result ≡ on_level level codes.now }
 {
     codes
         .iter()
-        .find(|code| is_at_level(level, **code))
+        .find(|code| level_of(class_of(**code)) == level)
         .copied()
         .unwrap_or(0)
 }
@@ -75,6 +68,7 @@ impl Stack {
     fn gather(&self) -> Option<Cell>
         ensures { option_map held result ≡ (if lawful (gathered self.now) then Some (gathered self.now) else None) }
     {
+        // A panel has no allocator, so the codes stay in fixed memory.
         let mut codes = ArrayVec::from([self.base, self.below, self.above, self.top]);
         codes.retain(|code| *code != 0);
         Cell::new(&codes)
