@@ -9,8 +9,8 @@ use Rattle.cells.proofs.Same.{held_lawful}
 use Rattle.panels.specs.declared.grid.Table.{Table}
 use Rattle.panels.specs.declared.row.Rows.{Rows}
 use Rattle.panels.specs.declared.ruled.Ruled.{Ruled}
-use Rattle.panels.specs.Grids.{table_held}
-use Rattle.panels.specs.Rows.{rows_held}
+use Rattle.panels.specs.Grids.{grid_screen, table_held}
+use Rattle.panels.specs.Rows.{row_screen, rows_held}
 use Rattle.panels.specs.Ruled.{ruled_screen}
 use Rattle.panels.specs.Screens.{Lawful}
 
@@ -39,3 +39,9 @@ ruled_lawful held_at each p =
       cells = columns_lawful (held_at p.store) 0 p.ruler.columns (each p.store);
       within = p.ruler.within;
     }
+
+pub grid_lawful : (p : Ruled Table) → Lawful (grid_screen p)
+grid_lawful = ruled_lawful table_held table_lawful
+
+pub row_lawful : (p : Ruled Rows) → Lawful (row_screen p)
+row_lawful = ruled_lawful rows_held rows_lawful

@@ -30,7 +30,7 @@ impl Store for Table {
         }
     }
 
-    fn read(&self, column: Column) -> Cell {
+    fn cell(&self, column: Column) -> Cell {
         self.cells[column.index]
     }
 

@@ -58,7 +58,7 @@ impl Store for Rows {
         }
     }
 
-    fn read(&self, column: Column) -> Cell {
+    fn cell(&self, column: Column) -> Cell {
         // What lies in a column is always a cell's codes.
         self.stack(column).cell().unwrap()
     }

@@ -43,7 +43,7 @@ impl<S: Store> Panel for Ruled<S> {
 
     fn read(&self, j: usize) -> Option<Cell> {
         let column = self.ruler.column(j)?;
-        Some(self.store.read(column))
+        Some(self.store.cell(column))
     }
 
     fn show(&mut self, j: usize, cell: Cell) -> bool {

@@ -20,7 +20,7 @@ pub trait Store {
     fn blank() -> Self
         ensures { (j : ℕ) → held_at result j ≡ [] };
 
-    fn read(&self, column: Column) -> Cell
+    fn cell(&self, column: Column) -> Cell
         ensures { held result ≡ held_at self.now column.index };
 
     // Puts a cell into a column, and the other columns stay.

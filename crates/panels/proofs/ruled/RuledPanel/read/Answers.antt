@@ -14,4 +14,4 @@ returns g c =
     let p = c.args.self.now in
     let at = c.in_ok-column.ensures in
     let held_at = g.S.Store.held_at p.store in
-    ap Some (c.read.ensures ∙ ap held_at at.0) ∙ sym (column_at held_at p.ruler.columns c.args.j at.1)
+    ap Some (c.cell.ensures ∙ ap held_at at.0) ∙ sym (column_at held_at p.ruler.columns c.args.j at.1)

@@ -3,7 +3,7 @@ use Rattle.panels.specs.Rows.{stack_at}
 use Rattle.panels.specs.Stacks.{gathered}
 use Rattle.panels.proofs.Outward.{held_again}
 use Rattle.panels.proofs.Stacked.{proper_cell}
-use Rattle.panels.proofs.row.RowsStore.read.Goals as goal
+use Rattle.panels.proofs.row.RowsStore.cell.Goals as goal
 
 pub unwrap-requires : goal.unwrap-requires
 unwrap-requires c =
