@@ -6,10 +6,10 @@ use Rattle.cells.specs.declared.cell.Cell.{Cell}
 use Rattle.cells.specs.Contents.{held}
 use Rattle.cells.specs.Values.{lawful}
 use Rattle.cells.proofs.Same.{held_lawful}
-use Rattle.panels.specs.declared.grid.Table.{Table}
+use Rattle.panels.specs.declared.grid.Grid.{Grid}
 use Rattle.panels.specs.declared.row.Rows.{Rows}
 use Rattle.panels.specs.declared.ruled.Ruled.{Ruled}
-use Rattle.panels.specs.Grids.{grid_screen, table_held}
+use Rattle.panels.specs.Grids.{grid_held, grid_screen}
 use Rattle.panels.specs.Rows.{row_screen, rows_held}
 use Rattle.panels.specs.Ruled.{ruled_screen}
 use Rattle.panels.specs.Screens.{Lawful}
@@ -19,11 +19,11 @@ cells_lawful [] j = refl
 cells_lawful (x ∷ cells) zero = held_lawful x
 cells_lawful (x ∷ cells) (suc j) = cells_lawful cells j
 
-pub table_lawful : (t : Table) (j : ℕ) → lawful (table_held t j) ≡ true
-table_lawful t j = cells_lawful t.cells j
+pub grid_cells_lawful : (g : Grid) (j : ℕ) → lawful (grid_held g j) ≡ true
+grid_cells_lawful g j = cells_lawful g.table.cells j
 
-pub rows_lawful : (r : Rows) (j : ℕ) → lawful (rows_held r j) ≡ true
-rows_lawful r j = (r.proper j).0
+pub rows_cells_lawful : (r : Rows) (j : ℕ) → lawful (rows_held r j) ≡ true
+rows_cells_lawful r j = (r.proper j).0
 
 columns_lawful : (f : ℕ → List ℕ) (a n : ℕ) → ((j : ℕ) → lawful (f j) ≡ true) → AllByRecursion (λ x. lawful x ≡ true) (map f (range_with_len a n))
 columns_lawful f a zero each = tt
@@ -40,8 +40,8 @@ ruled_lawful held_at each p =
       within = p.ruler.within;
     }
 
-pub grid_lawful : (p : Ruled Table) → Lawful (grid_screen p)
-grid_lawful = ruled_lawful table_held table_lawful
+pub grid_lawful : (p : Ruled Grid) → Lawful (grid_screen p)
+grid_lawful = ruled_lawful grid_held grid_cells_lawful
 
 pub row_lawful : (p : Ruled Rows) → Lawful (row_screen p)
-row_lawful = ruled_lawful rows_held rows_lawful
+row_lawful = ruled_lawful rows_held rows_cells_lawful

@@ -1,40 +1,59 @@
 // The grid panel.
-ghost use Rattle.std.specs.Prelude.{◌≡◌, length};
+ghost use Rattle.std.specs.Prelude.{◌≡◌, length, slice_set};
 
 use crate::panel::MAX_COLUMNS;
 use crate::ruled::Ruled;
 use crate::store::{Column, Store};
 use cells::cell::Cell;
 
-// A cell for every column that a panel can have.
+// A cell for every column that a panel can have. `Grid` says that they are all there, since no element can be lent yet from
+// a struct with a fact of its own.
 #[derive(Debug, Drop)]
-pub struct Table {
+pub(crate) struct Table {
     pub(crate) cells: [Cell; MAX_COLUMNS],
-    ghost full: { length cells ≡ 80 },
+}
+
+impl Table {
+    // One cell is lent and changed, and the others stay.
+    fn put(&mut self, column: Column, cell: Cell)
+        ensures { self.new.cells ≡ slice_set self.old.cells column.index cell }
+    {
+        let slot = &mut self.cells[column.index];
+        *slot = cell;
+    }
+}
+
+// What keeps the cells of a grid panel.
+#[derive(Debug, Drop)]
+pub struct Grid {
+    pub(crate) table: Table,
+    ghost full: { length table.cells ≡ 80 },
 }
 
 // A panel that keeps a table of cells.
-pub type GridPanel = Ruled<Table>;
+pub type GridPanel = Ruled<Grid>;
 
-impl Store for Table {
-    ghost use Rattle.panels.specs.Grids.{table_held};
-    ghost use Rattle.panels.specs.Laws.{table_lawful};
+impl Store for Grid {
+    ghost use Rattle.panels.specs.Grids.{grid_held};
+    ghost use Rattle.panels.specs.Laws.{grid_cells_lawful};
 
-    ghost held_at = { table_held };
+    ghost held_at = { grid_held };
 
-    ghost each_lawful = { table_lawful };
+    ghost each_lawful = { grid_cells_lawful };
 
-    fn blank() -> Table {
-        Table {
-            cells: [Cell::blank(); MAX_COLUMNS],
+    fn blank() -> Grid {
+        Grid {
+            table: Table {
+                cells: [Cell::blank(); MAX_COLUMNS],
+            },
         }
     }
 
     fn cell(&self, column: Column) -> Cell {
-        self.cells[column.index]
+        self.table.cells[column.index]
     }
 
     fn put(&mut self, column: Column, cell: Cell) {
-        self.cells[column.index] = cell;
+        self.table.put(column, cell);
     }
 }

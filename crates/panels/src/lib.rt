@@ -8,4 +8,4 @@ pub mod row;
 pub mod ruled;
 mod ruler;
 pub mod stack;
-pub mod store;
+mod store;

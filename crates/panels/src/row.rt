@@ -43,11 +43,11 @@ impl Rows {
 
 impl Store for Rows {
     ghost use Rattle.panels.specs.Rows.{rows_held};
-    ghost use Rattle.panels.specs.Laws.{rows_lawful};
+    ghost use Rattle.panels.specs.Laws.{rows_cells_lawful};
 
     ghost held_at = { rows_held };
 
-    ghost each_lawful = { rows_lawful };
+    ghost each_lawful = { rows_cells_lawful };
 
     fn blank() -> Rows {
         Rows {

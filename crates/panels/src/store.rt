@@ -8,7 +8,7 @@ use cells::cell::Cell;
 // One of the columns that a panel can have.
 #[derive(Clone, Copy, Debug)]
 pub struct Column {
-    pub index: usize,
+    pub(crate) index: usize,
     ghost within: { index < 80 },
 }
 

@@ -2,7 +2,7 @@ use Rattle.std.proofs.Common.{map, replicate, sym, ap, ◌∙◌, get_or}
 use Rattle.std.proofs.Math.ListN.{get_or-map}
 use Rattle.cells.specs.Contents.{held}
 use Rattle.panels.proofs.Alike.{alike_everywhere}
-use Rattle.panels.proofs.grid.TableStore.blank.Goals as goal
+use Rattle.panels.proofs.grid.GridStore.blank.Goals as goal
 
 pub returns : goal.returns
 returns c = λ j.
