@@ -6,6 +6,7 @@ ghost use Rattle.std.specs.List.{AllByRecursion};
 ghost use Rattle.examples.specs.Examples.{Holds, examples};
 
 use codes::classes::Class;
+use panels::stack::Stack;
 
 #[cfg(test)]
 mod on_panels;
@@ -23,6 +24,13 @@ pub fn same_class(first: Class, second: Class) -> bool
     ensures { Decides result (first ≡ second) }
 {
     first == second
+}
+
+// Whether four rows have the same codes in two columns.
+pub fn same_stack(first: Stack, second: Stack) -> bool
+    ensures { Decides result (first ≡ second) }
+{
+    second == first
 }
 
 // The worked examples of docs/RULES.md that need neither panel nor editor, and cases at their edges.
