@@ -1,23 +1,14 @@
 -- The text of the report.
-use Rattle.std.specs.Prelude.{ℕ, ◌+◌, ◌-◌, ◌/◌, ◌%◌, Bool, cond, List, [], ◌∷◌, ◌++◌, is_ok, Ok, Err, codes, decimal, Result, nat_lt, slice_index}
+use Rattle.std.specs.Prelude.{ℕ, ◌+◌, ◌-◌, Bool, cond, List, [], ◌∷◌, ◌++◌, is_ok, Ok, Err, codes, decimal, Result, slice_index}
 use Rattle.std.specs.List.{flat_map}
 use Rattle.codes.specs.Classes.{class_of}
+use Rattle.codes.specs.Hexes.{hex_of, hexes}
 use Rattle.cells.specs.Runs.{cells, runs, width_of}
 use Rattle.policies.specs.Levels.{level_numbered, level_pairs}
 use Rattle.lines.specs.declared.refusal.Refusal.{Refusal}
 use Rattle.lines.specs.declared.refusal.Refusal.TheVariants.{NotText, NotAdmitted, NextNotAdmitted, TooWide, NothingThere, WouldMeet}
 use Rattle.lines.specs.Checks.{before, checked, number_of, place_of}
 use Rattle.names.specs.declared.settings.Settings.{Settings}
-
-abbrev pub hex_digit : ℕ → ℕ
-hex_digit d = cond (nat_lt d 10) (48 + d) (55 + d)
-
--- two upper-case hexadecimal digits
-abbrev pub hex_of : ℕ → List ℕ
-hex_of c = hex_digit (c / 16) ∷ hex_digit (c % 16) ∷ []
-
-abbrev pub hexes : List ℕ → List ℕ
-hexes s = flat_map hex_of s
 
 abbrev pub cell_text : List ℕ → List ℕ
 cell_text cell = codes " [" ++ (hexes cell ++ codes "]")

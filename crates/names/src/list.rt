@@ -1,53 +1,62 @@
 // The names of a list, one to a line.
-ghost use Rattle.std.specs.Prelude.{◌≡◌, ◌≤◌, length};
-ghost use Rattle.names.specs.Lists.{FirstName, line_len, without_return};
+ghost use Rattle.std.specs.Prelude.{◌≡◌, position, ◌==◌};
+ghost use Rattle.std.specs.Iterator.{YieldsFirstRef, item_count};
+ghost use Rattle.std.specs.Str.Lines.{strip_carriage_return};
+ghost use Rattle.names.specs.Lists.{names};
 
-// The first line of a list: how many bytes its name has, and where the next line starts.
-#[derive(Clone, Copy, Debug, PartialEq, Eq)]
-pub(crate) struct FirstLine {
-    pub(crate) len: usize,
-    pub(crate) next: usize,
+// The names of a list that are still to come.
+#[derive(Clone, Copy, Debug, Drop)]
+pub(crate) struct Names<'a> {
+    rest: &'a [u8],
 }
 
-// How many bytes stand before the first 0A.
-fn line_len(list: &[u8]) -> usize
-    ensures value { result ≡ line_len list.now }
-    ensures within { result ≤ length list.now }
+impl<'a> Names<'a> {
+    pub(crate) fn of(list: &'a [u8]) -> Names<'a>
+        ensures { result.rest.now ≡ list.now }
+    {
+        Names { rest: list }
+    }
+}
+
+// Where the first line ends: the place of its 0A, unless the list ends before one.
+fn line_end(list: &[u8]) -> Option<usize>
+    ensures { result ≡ position (λ c. c == 10) list.now }
 {
-    for (i, byte) in list.iter().enumerate() {
-        if *byte == b'\n' {
-            return i;
+    list.iter().position(|byte| *byte == b'\n')
+}
+
+// The name on a line: a 0D at the end is no part of it.
+fn without_return(line: &[u8]) -> &[u8]
+    ensures { result.now ≡ strip_carriage_return line.now }
+{
+    match line {
+        [name @ .., b'\r'] => name,
+        _ => line,
+    }
+}
+
+impl<'a> Iterator for Names<'a> {
+    type Item = &'a [u8];
+
+    ghost next_gives = { YieldsFirstRef (λ s. names s.rest.now) };
+
+    ghost remaining = { item_count (λ s. names s.rest.now) };
+
+    #[tactic(auto, using(crate::proofs::Lines::ended, crate::proofs::Lines::unended, std::proofs::lemmas::List::take_rest))]
+    fn next(&mut self) -> Option<&'a [u8]> {
+        let list = self.rest;
+        if list.is_empty() {
+            return None;
+        }
+        match line_end(list) {
+            Some(end) => {
+                self.rest = &list[end + 1..];
+                Some(without_return(&list[..end]))
+            }
+            None => {
+                self.rest = &[];
+                Some(list)
+            }
         }
     }
-    list.len()
-}
-
-// How many bytes of a line are its name: a 0D at the end is none.
-fn name_len(line: &[u8]) -> usize
-    ensures value { result ≡ length (without_return line.now) }
-    ensures within { result ≤ length line.now }
-{
-    let len = line.len();
-    if len == 0 {
-        return 0;
-    }
-    if line[len - 1] == b'\r' { len - 1 } else { len }
-}
-
-// The first line of a list, or none at its end.
-pub(crate) fn first_line(list: &[u8]) -> Option<FirstLine>
-    ensures { FirstName list.now result }
-{
-    if list.is_empty() {
-        return None;
-    }
-    let len = line_len(list);
-    if len == list.len() {
-        return Some(FirstLine { len, next: len });
-    }
-    let name = name_len(&list[0..len]);
-    Some(FirstLine {
-        len: name,
-        next: len + 1,
-    })
 }

@@ -1,0 +1,165 @@
+// A name of a list, as the report tells of it.
+ghost use Rattle.std.specs.Prelude.{◌≡◌, Some, slice_index};
+ghost use Rattle.codes.specs.Hexes.{hexes};
+ghost use Rattle.lines.specs.Checks.{before};
+ghost use Rattle.names.specs.Texts.{answer, cells_text, line_text, reason_text, taken};
+
+use crate::settings::Settings;
+use cells::division::{first_run_len, width};
+use codes::classes::class_of;
+use codes::hex::Hex;
+use faults::fault::Fault;
+use lines::check::check_line;
+use lines::refusal::Refusal;
+use policies::level::LevelPolicy;
+use std::fmt;
+
+// Codes in hexadecimal, one after the other.
+#[derive(Clone, Copy)]
+struct Codes<'a>(&'a [u8]);
+
+impl<'a> fmt::Display for Codes<'a> {
+    ghost output = { λ x. Some (hexes x.0.now) };
+
+    fn fmt<W: fmt::Write>(&self, f: &mut fmt::Formatter<W>) -> fmt::Result {
+        for code in self.0 {
+            let code = Hex(*code);
+            write!(f, "{code}")?;
+        }
+        Ok(())
+    }
+}
+
+// The cells of a name, each in brackets.
+#[derive(Clone, Copy)]
+struct Cells<'a>(&'a [u8]);
+
+impl<'a> fmt::Display for Cells<'a> {
+    ghost output = { λ x. Some (cells_text x.0.now) };
+
+    fn fmt<W: fmt::Write>(&self, f: &mut fmt::Formatter<W>) -> fmt::Result {
+        let mut rest = self.0;
+        while !rest.is_empty() {
+            let len = first_run_len(rest);
+            if !class_of(rest[0]).is_control() {
+                let codes = Codes(&rest[..len]);
+                write!(f, " [{codes}]")?;
+            }
+            rest = &rest[len..];
+        }
+        Ok(())
+    }
+}
+
+fn code_at(name: &[u8], place: usize) -> Hex
+    ensures { result.0 ≡ slice_index name.now place }
+{
+    Hex(name.get(place).copied().unwrap_or(0))
+}
+
+fn code_before(name: &[u8], place: usize) -> Hex
+    ensures { result.0 ≡ before name.now place }
+{
+    match place.checked_sub(1) {
+        Some(place) => code_at(name, place),
+        None => Hex(0),
+    }
+}
+
+// Why a name is refused.
+#[derive(Clone, Copy)]
+struct Reason<'a> {
+    settings: Settings,
+    name: &'a [u8],
+    refusal: Refusal,
+}
+
+impl<'a> fmt::Display for Reason<'a> {
+    ghost output = { λ x. Some (reason_text x.settings x.name.now x.refusal) };
+
+    fn fmt<W: fmt::Write>(&self, f: &mut fmt::Formatter<W>) -> fmt::Result {
+        let Settings { columns, level } = self.settings;
+        match self.refusal {
+            Refusal::NotText(place) => {
+                let code = code_at(self.name, place);
+                write!(f, "{code} is no text code")
+            }
+            Refusal::NotAdmitted(place) => {
+                let first = code_before(self.name, place);
+                let second = code_at(self.name, place);
+                write!(f, "level {level} does not admit {second} after {first}")
+            }
+            Refusal::TooWide(_) => {
+                let cells = width(self.name);
+                write!(f, "{cells} cells, and the panel has {columns} columns")
+            }
+            // `check_line` gives none of these.
+            Refusal::NextNotAdmitted(_) | Refusal::NothingThere(_) | Refusal::WouldMeet(_) => Ok(
+                (),
+            ),
+        }
+    }
+}
+
+// A name with its number in the list, and what is told of it. It shows as its line of the report.
+#[derive(Clone, Copy, Debug)]
+pub(crate) struct Entry<'a> {
+    settings: Settings,
+    number: usize,
+    name: &'a [u8],
+    outcome: Result<usize, Refusal>,
+    ghost checked: { outcome ≡ answer settings name.now },
+}
+
+impl<'a> Entry<'a> {
+    pub(crate) fn new(settings: Settings, number: usize, name: &'a [u8]) -> Entry<'a>
+        ensures settings { result.settings ≡ settings }
+        ensures number { result.number ≡ number }
+        ensures name { result.name.now ≡ name.now }
+    {
+        let policy = LevelPolicy::new(settings.level);
+        let outcome = check_line(&policy, usize::from(settings.columns), name);
+        Entry {
+            settings,
+            number,
+            name,
+            outcome,
+        }
+    }
+
+    // Whether the panel takes the name.
+    pub(crate) fn is_taken(&self) -> bool
+        ensures { result ≡ taken self.now.settings self.now.name.now }
+    {
+        self.outcome.is_ok()
+    }
+}
+
+impl<'a> fmt::Display for Entry<'a> {
+    ghost output = { λ x. Some (line_text x.settings x.number x.name.now) };
+
+    fn fmt<W: fmt::Write>(&self, f: &mut fmt::Formatter<W>) -> fmt::Result {
+        let Entry {
+            settings,
+            number,
+            name,
+            outcome,
+        } = *self;
+        match outcome {
+            Ok(width) => {
+                let cells = Cells(name);
+                writeln!(f, "{number} ok {width}{cells}")
+            }
+            Err(refusal) => {
+                let kind = refusal.number();
+                let place = refusal.place();
+                let reason = Reason {
+                    settings,
+                    name,
+                    refusal,
+                };
+                writeln!(f, "{number} refused {kind} at {place}: {reason}")
+            }
+        }
+    }
+}
