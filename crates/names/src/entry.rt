@@ -94,9 +94,9 @@ impl<'a> fmt::Display for Reason<'a> {
                 write!(f, "{cells} cells, and the panel has {columns} columns")
             }
             // `check_line` gives none of these.
-            Refusal::NextNotAdmitted(_) | Refusal::NothingThere(_) | Refusal::WouldMeet(_) => Ok(
-                (),
-            ),
+            Refusal::NextNotAdmitted(_) | Refusal::NothingThere(_) | Refusal::WouldMeet(_) => {
+                Ok(())
+            }
         }
     }
 }

@@ -5,7 +5,7 @@ ghost use Rattle.std.specs.Str.Lines.{strip_carriage_return};
 ghost use Rattle.names.specs.Lists.{names};
 
 // The names of a list that are still to come.
-#[derive(Clone, Copy, Debug, Drop)]
+#[derive(Clone, Debug, Drop)]
 pub(crate) struct Names<'a> {
     rest: &'a [u8],
 }
