@@ -1,34 +1,18 @@
 // A name of a list, as the report tells of it.
 ghost use Rattle.std.specs.Prelude.{◌≡◌, Some, slice_index};
-ghost use Rattle.codes.specs.Hexes.{hexes};
 ghost use Rattle.lines.specs.Checks.{before};
 ghost use Rattle.names.specs.Texts.{answer, cells_text, line_text, reason_text, taken};
 
 use crate::settings::Settings;
-use cells::division::{first_run_len, width};
-use codes::classes::class_of;
+use cells::division::width;
+use cells::reading::Codes;
+use cells::runs::{Runs, is_cell};
 use codes::hex::Hex;
 use faults::fault::Fault;
 use lines::check::check_line;
 use lines::refusal::Refusal;
 use policies::level::LevelPolicy;
 use std::fmt;
-
-// Codes in hexadecimal, one after the other.
-#[derive(Clone, Copy)]
-struct Codes<'a>(&'a [u8]);
-
-impl<'a> fmt::Display for Codes<'a> {
-    ghost output = { λ x. Some (hexes x.0.now) };
-
-    fn fmt<W: fmt::Write>(&self, f: &mut fmt::Formatter<W>) -> fmt::Result {
-        for code in self.0 {
-            let code = Hex(*code);
-            write!(f, "{code}")?;
-        }
-        Ok(())
-    }
-}
 
 // The cells of a name, each in brackets.
 #[derive(Clone, Copy)]
@@ -38,14 +22,13 @@ impl<'a> fmt::Display for Cells<'a> {
     ghost output = { λ x. Some (cells_text x.0.now) };
 
     fn fmt<W: fmt::Write>(&self, f: &mut fmt::Formatter<W>) -> fmt::Result {
-        let mut rest = self.0;
-        while !rest.is_empty() {
-            let len = first_run_len(rest);
-            if !class_of(rest[0]).is_control() {
-                let codes = Codes(&rest[..len]);
-                write!(f, " [{codes}]")?;
+        // Tried with a `filter`: the proof of a `for` over one with a closure doesn't close in a generic function.
+        for run in Runs::of(self.0) {
+            if !is_cell(run) {
+                continue;
             }
-            rest = &rest[len..];
+            let codes = Codes(run);
+            write!(f, " [{codes}]")?;
         }
         Ok(())
     }
