@@ -40,10 +40,6 @@ module _ {X : Type 0} (k : X → Class) where
   front_first d [] h = absurd (omega arith)
   front_first d (c ∷ s) h = front_more c s ∙ ap (λ t. suc (more (k c) t)) (sym (take_rest (c ∷ s) 1))
 
-  pub front_none : (s : List X) → length s ≡ 0 → 0 ≡ front s
-  front_none [] h = refl
-  front_none (c ∷ s) h = absurd (omega arith)
-
   -- the first run, and then the runs of what is left
   into_step : (c : X) (t : List X) (rs : List (List X)) → rs ≡ first_run rs ∷ runs k (drop (length (first_run rs)) t) → into c rs ≡ first_run (into c rs) ∷ runs k (drop (length (first_run (into c rs))) (c ∷ t))
   into_step c t [] e = cc
@@ -77,5 +73,5 @@ module _ {X : Type 0} (k : X → Class) where
   more_le b [] = omega arith
   more_le b (c ∷ s) = cond_le (joins b (k c)) (more (k c) s) (length s) (more_le (k c) s)
 
-  pub front_within : (c : X) (s : List X) → (0 < front (c ∷ s)) × (front (c ∷ s) ≤ length (c ∷ s))
-  front_within c s = (omega (arith, front_more c s), omega (arith, front_more c s, more_le (k c) s))
+  pub front_within : (c : X) (s : List X) → front (c ∷ s) ≤ length (c ∷ s)
+  front_within c s = omega (arith, front_more c s, more_le (k c) s)

@@ -2,4 +2,3 @@ pub mod Every
 pub mod Tables
 pub mod Alike
 pub mod Bytes
-pub mod Writing

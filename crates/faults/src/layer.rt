@@ -10,10 +10,10 @@ pub enum Layer {
 
 impl fmt::Display for Layer {
     fn fmt<W: fmt::Write>(&self, f: &mut fmt::Formatter<W>) -> fmt::Result {
-        match self {
-            Layer::Hex => write!(f, "hex"),
-            Layer::Frame => write!(f, "frame"),
-            Layer::Editor => write!(f, "editor"),
-        }
+        f.write_str(match self {
+            Layer::Hex => "hex",
+            Layer::Frame => "frame",
+            Layer::Editor => "editor",
+        })
     }
 }

@@ -18,6 +18,7 @@ fn run(rt: &HostRuntime) -> anyhow::Result<String> {
     let words: Vec<String> = args.skip(1).collect(heap)?;
     let settings = settings_of(words.as_slice())?;
     let mut list = Vec::new(heap);
+    // One byte more, to tell a list that is too long. No `From` takes a `usize` to a `u64`.
     rt.stdin().take(LIMIT as u64 + 1).read_to_end(&mut list)?;
     if list.len() > LIMIT {
         return Err(Misuse::Length.into());

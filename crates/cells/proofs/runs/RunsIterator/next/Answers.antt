@@ -1,4 +1,4 @@
-use Rattle.std.proofs.Common.{get_or, rules, arith, ◌∷◌, ◌∙◌, refl, sym}
+use Rattle.std.proofs.Common.{rules, arith, ◌∷◌, ◌∙◌, sym}
 use Rattle.std.proofs.lemmas.Bool.Decides.{nat_tests}
 use Rattle.codes.specs.Classes.{class_of}
 use Rattle.cells.specs.Runs.{runs}
@@ -7,8 +7,8 @@ use Rattle.cells.proofs.runs.RunsIterator.next.Goals as goal
 use Rattle.cells.proofs.runs.RunsIterator.next.Goals.{After-first_run_len}
 
 -- the first run of what is left
-first : (c : After-first_run_len) → Lead class_of c.args.self.now.rest.now c.first_run_len.result (class_of (get_or c.args.self.now.rest.now 0 0))
-first c = lead class_of _ _ _ 0 (grind (arith, nat_tests)) refl c.first_run_len.ensures.value
+first : (c : After-first_run_len) → Lead class_of c.args.self.now.rest.now c.first_run_len.result
+first c = lead class_of _ _ (grind (arith, nat_tests)) c.first_run_len.ensures.value
 
 pub split_at-requires : goal.split_at-requires
 split_at-requires c = (first c).within
