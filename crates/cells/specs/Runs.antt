@@ -1,5 +1,5 @@
 -- Runs and cells of a string, for any kind of code X that tells its class by k.
-use Rattle.std.specs.Prelude.{◌≡◌, ℕ, ◌+◌, ◌≤◌, Bool, false, cond, not, List, [], ◌∷◌, length, take, drop, Some, None, Option, slice_index_or}
+use Rattle.std.specs.Prelude.{◌≡◌, ℕ, ◌+◌, ◌≤◌, Bool, false, cond, not, List, [], ◌∷◌, length, take, drop, filter, Some, None, Option, slice_index_or}
 use Rattle.std.specs.List.{slice_get}
 use Rattle.codes.specs.declared.classes.Class.{Class}
 use Rattle.codes.specs.Classes.{is_control}
@@ -31,8 +31,7 @@ is_cell k [] = false
 is_cell k (c ∷ cs) = not (is_control (k c))
 
 abbrev pub cells : {X : Type 0} → (X → Class) → List (List X) → List (List X)
-cells k [] = []
-cells k (r ∷ rs) = cond (is_cell k r) (r ∷ cells k rs) (cells k rs)
+cells k rs = filter (is_cell k) rs
 
 abbrev pub width_of : {X : Type 0} → (X → Class) → List X → ℕ
 width_of k s = length (cells k (runs k s))

@@ -25,13 +25,6 @@ fn joined(first: Class, second: Class) -> bool
     class_verdict(first, second).is_compose()
 }
 
-// Whether a cell begins with a code of a class that stands after one of the class before it.
-fn begins_cell(before: Class, class: Class) -> bool
-    ensures { result ≡ (not (joins before class) && not (is_control class)) }
-{
-    !joined(before, class) && !class.is_control()
-}
-
 // How many codes the first run has; 0 if there is none. No run has more than three.
 pub fn first_run_len(codes: &[u8]) -> usize
     ensures value { result ≡ length (first_run (runs class_of codes.now)) }
@@ -57,16 +50,7 @@ pub fn width(codes: &[u8]) -> usize
     ensures division { OneDivision codes.now }
     ensures text { all_text codes.now ≡ true → length codes.now ≤ 3 * result }
 {
-    let mut cells = 0;
-    let mut before = Class::Ctrl;
-    for code in codes {
-        let class = class_of(*code);
-        if begins_cell(before, class) {
-            cells += 1;
-        }
-        before = class;
-    }
-    cells
+    Runs::of(codes).filter(|run| is_cell(run)).count()
 }
 
 // Where cell number `j` lies, counted from 0; none past the last.
@@ -74,6 +58,7 @@ pub fn cell_at(codes: &[u8], j: usize) -> Option<Span>
     ensures value { result ≡ cell_at class_of codes.now j }
     ensures codes { Spanned class_of codes.now j result }
 {
+    // Counted by hand, since `filter` and `nth` would lose where the cell starts.
     let mut cells = 0;
     let mut start = 0;
     for run in Runs::of(codes) {
