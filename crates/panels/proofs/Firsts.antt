@@ -6,6 +6,7 @@ use Rattle.cells.specs.Contents.{held}
 use Rattle.panels.specs.declared.grid.Grid.{Grid}
 use Rattle.panels.specs.declared.ruled.Ruled.{Ruled}
 use Rattle.panels.specs.Grids.{grid_screen, grid_held}
+use Rattle.panels.specs.Laws.{firsts_length}
 use Rattle.panels.specs.Screens.{screen_of}
 
 pub first_cells : (p : Ruled Grid) → grid_screen p ≡ screen_of p.ruler.columns (map held (take p.ruler.columns p.store.table.cells)) p.ruler.cursor
@@ -16,4 +17,4 @@ first_cells p =
     let few = p.ruler.few in
     let firsts = map held (take w cells) in
     ap (λ row. screen_of w row p.ruler.cursor)
-    (sym (fill_by_all (grid_held p.store) firsts w [] (length-map (take w cells) held ∙ length-take-le w cells (omega arith)) (λ k lt. ap (λ row. get_or row k []) (sym (take-map held w cells)) ∙ get_or-take w (map held cells) k [] lt)))
+    (sym (fill_by_all (grid_held p.store) firsts w [] (firsts_length w cells (omega arith)) (λ k lt. ap (λ row. get_or row k []) (sym (take-map held w cells)) ∙ get_or-take w (map held cells) k [] lt)))

@@ -1,6 +1,8 @@
 -- Each store has in a column what a cell may hold, and so each panel shows what a panel may show.
-use Rattle.std.specs.Prelude.{◌≡◌, ℕ, zero, suc, ◌+◌, true, List, [], ◌∷◌, map, refl, slice_index_or}
+use Rattle.std.specs.Prelude.{◌≡◌, ℕ, zero, suc, ◌+◌, ◌≤◌, true, List, [], ◌∷◌, length, map, refl, slice_index_or, take}
 use Rattle.std.specs.List.{AllByRecursion, range_with_len}
+use Rattle.std.proofs.Common.{◌∙◌}
+use Rattle.std.proofs.lemmas.List.{length-map, length-take-le}
 use Rattle.std.proofs.lemmas.List.FromFn.{length-map-range_with_len}
 use Rattle.cells.specs.declared.cell.Cell.{Cell}
 use Rattle.cells.specs.Contents.{held}
@@ -19,13 +21,23 @@ cells_lawful [] j = refl
 cells_lawful (x ∷ cells) zero = held_lawful x
 cells_lawful (x ∷ cells) (suc j) = cells_lawful cells j
 
+-- of the first cells of a table there are as many as are asked for, and each is one that a cell may be
+
+pub firsts_length : (n : ℕ) (cells : List Cell) → n ≤ length cells → length (map held (take n cells)) ≡ n
+firsts_length n cells h = length-map (take n cells) held ∙ length-take-le n cells h
+
+pub firsts_lawful : (n : ℕ) (cells : List Cell) → AllByRecursion (λ x. lawful x ≡ true) (map held (take n cells))
+firsts_lawful zero cells = tt
+firsts_lawful (suc n) [] = tt
+firsts_lawful (suc n) (x ∷ cells) = (held_lawful x, firsts_lawful n cells)
+
 pub grid_cells_lawful : (g : Grid) (j : ℕ) → lawful (grid_held g j) ≡ true
 grid_cells_lawful g j = cells_lawful g.table.cells j
 
 pub rows_cells_lawful : (r : Rows) (j : ℕ) → lawful (rows_held r j) ≡ true
 rows_cells_lawful r j = (r.proper j).0
 
-columns_lawful : (f : ℕ → List ℕ) (a n : ℕ) → ((j : ℕ) → lawful (f j) ≡ true) → AllByRecursion (λ x. lawful x ≡ true) (map f (range_with_len a n))
+pub columns_lawful : (f : ℕ → List ℕ) (a n : ℕ) → ((j : ℕ) → lawful (f j) ≡ true) → AllByRecursion (λ x. lawful x ≡ true) (map f (range_with_len a n))
 columns_lawful f a zero each = tt
 columns_lawful f a (suc n) each = (each a, columns_lawful f (a + 1) n each)
 
