@@ -19,7 +19,8 @@ pub fn worked_examples() -> usize
     16
 }
 
-// Whether two classes are the same: the derived `==` decides it.
+// Whether two classes are the same: the derived `==` decides it. There is such a function for each type, since `Eq` alone
+// does not say what it decides.
 pub fn same_class(first: Class, second: Class) -> bool
     ensures { Decides result (first ≡ second) }
 {
