@@ -1,17 +1,11 @@
 -- What the walk over a string finds: that every code is fine, or the first that is not.
-use Rattle.std.proofs.Common.{◌≡◌, ℕ, zero, suc, ◌+◌, ◌<◌, Bool, true, false, cond, List, [], ◌∷◌, length, get_or, drop, Ok, Err, Result, sym, refl, ◌∙◌, arith}
-use Rattle.std.proofs.lemmas.List.{at_drop_more}
+use Rattle.std.proofs.Common.{◌≡◌, ℕ, zero, suc, ◌+◌, ◌<◌, Bool, true, false, cond, List, [], ◌∷◌, length, get_or, Ok, Err, Result, refl, arith}
 use Rattle.codes.specs.Classes.{is_text}
 use Rattle.lines.specs.declared.refusal.Refusal.{Refusal}
 use Rattle.lines.specs.declared.refusal.Refusal.TheVariants.{NotText, NotAdmitted, NextNotAdmitted, TooWide, NothingThere, WouldMeet}
 use Rattle.lines.specs.Checks.{walked}
 
 module _ (f : ℕ → ℕ → Bool) where
-  -- the walk at a place, by the two tests there
-  pub walk_at : (b : ℕ) (s : List ℕ) (i : ℕ) (t p : Bool) → i < length s → t ≡ is_text (get_or s i 0) → p ≡ f b (get_or s i 0) → walked f i b (drop i s) ≡ cond t (cond p (walked f (i + 1) (get_or s i 0) (drop (i + 1) s)) (Err (NotAdmitted i))) (Err (NotText i))
-  walk_at b s i t p h e g =
-      at_drop_more (walked f i b) s i 0 h ∙ sym (λ j. cond (e j) (cond (g j) (walked f (i + 1) (get_or s i 0) (drop (i + 1) s)) (Err (NotAdmitted i))) (Err (NotText i)))
-
   -- code number k of cs is text, and admitted after the one before it, where b stands before them all
   abbrev pub Fine : ℕ → List ℕ → ℕ → Type 0
   Fine b cs k = (is_text (get_or cs k 0) ≡ true) × (f (get_or (b ∷ cs) k 0) (get_or cs k 0) ≡ true)
