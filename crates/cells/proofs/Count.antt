@@ -1,6 +1,6 @@
 -- There are 2,419 cells: a list of them is computed, in ascending order, and every one is in it.
-use Rattle.std.proofs.Common.{◌≡◌, ℕ, zero, suc, ◌+◌, ◌*◌, ◌<◌, ◌≤◌, Bool, true, false, cond, ◌&&◌, leb, ◌⊎◌, List, [], ◌∷◌, ◌++◌, map, length, sym, refl, ap, ◌∙◌, subst, inl, inr, ⊎_elim, arith}
-use Rattle.std.specs.List.{flat_map}
+use Rattle.std.proofs.Common.{◌≡◌, ℕ, zero, suc, ◌+◌, ◌*◌, ◌<◌, ◌≤◌, Bool, true, false, cond, ◌&&◌, leb, ◌⊎◌, List, [], ◌∷◌, ◌++◌, map, filter, sym, refl, ap, ◌∙◌, subst, inl, inr, ⊎_elim, arith}
+use Rattle.std.specs.List.{flat_map, list_all}
 use Rattle.std.proofs.lemmas.Bool.{and_parts, both_ways, cases_lt, leb-true}
 use Rattle.std.proofs.ByRecursion.{Decides-by_and}
 use Rattle.codes.specs.Classes.{class_of, is_text}
@@ -8,14 +8,10 @@ use Rattle.codes.specs.Verdicts.{class_verdict, letter_at}
 use Rattle.codes.proofs.Bytes.{text_below_256}
 use Rattle.cells.specs.Runs.{joins}
 use Rattle.cells.specs.Contents.{Distinct, Exactly, Member}
-use Rattle.cells.specs.Values.{all_text, chained, lawful}
-use Rattle.cells.proofs.Packed.{lawful_short}
+use Rattle.cells.specs.Values.{lawful}
+use Rattle.cells.proofs.Packed.{lawful_parts, lawful_short}
 
 -- the list
-
-abbrev kept : {X : Type 0} → (X → Bool) → List X → List X
-kept p [] = []
-kept p (x ∷ xs) = cond (p x) (x ∷ kept p xs) (kept p xs)
 
 -- the numbers below n, in ascending order
 abbrev up_to : ℕ → List ℕ
@@ -23,13 +19,13 @@ up_to zero = []
 up_to (suc n) = up_to n ++ (n ∷ [])
 
 texts : List ℕ
-texts = kept is_text (up_to 256)
+texts = filter is_text (up_to 256)
 
 together : ℕ → ℕ → Bool
 together a b = joins (class_of a) (class_of b)
 
 after : ℕ → List ℕ
-after a = kept (together a) texts
+after a = filter (together a) texts
 
 with_two : ℕ → ℕ → List (List ℕ)
 with_two a b = (a ∷ b ∷ []) ∷ map (λ c. a ∷ b ∷ c ∷ []) (after b)
@@ -42,13 +38,13 @@ all_cells = [] ∷ flat_map with_one texts
 
 -- it is complete
 
-kept_member : {X : Type 0} (p : X → Bool) (x : X) (xs : List X) → p x ≡ true → Member x xs → Member x (kept p xs)
-kept_member p x [] e m = m
-kept_member p x (y ∷ ys) e m =
+filter_member : {X : Type 0} (p : X → Bool) (x : X) (xs : List X) → p x ≡ true → Member x xs → Member x (filter p xs)
+filter_member p x [] e m = m
+filter_member p x (y ∷ ys) e m =
     cond_member (p y)
-    (⊎_elim (λ same. inl (ap p (sym same) ∙ e, same)) (λ later. inr (kept_member p x ys e later)) m)
+    (⊎_elim (λ same. inl (ap p (sym same) ∙ e, same)) (λ later. inr (filter_member p x ys e later)) m)
   where
-    cond_member : (b : Bool) → ((b ≡ true) × (x ≡ y)) ⊎ Member x (kept p ys) → Member x (cond b (y ∷ kept p ys) (kept p ys))
+    cond_member : (b : Bool) → ((b ≡ true) × (x ≡ y)) ⊎ Member x (filter p ys) → Member x (cond b (y ∷ filter p ys) (filter p ys))
     cond_member true (inl h) = inl h.1
     cond_member true (inr m) = inr m
     cond_member false (inl h) = absurd (both_ways false refl h.0)
@@ -79,14 +75,11 @@ in_up_to (suc n) k h =
 
 in_texts : (c : ℕ) → is_text c ≡ true → Member c texts
 unfolding texts
-in_texts c e = kept_member is_text c (up_to 256) e (in_up_to 256 c (text_below_256 c e))
+in_texts c e = filter_member is_text c (up_to 256) e (in_up_to 256 c (text_below_256 c e))
 
 in_after : (a b : ℕ) → is_text b ≡ true → together a b ≡ true → Member b (after a)
 unfolding after
-in_after a b e j = kept_member (together a) b texts j (in_texts b e)
-
-lawful_parts : (s : List ℕ) → lawful s ≡ true → (chained s ≡ true) × (all_text s ≡ true)
-lawful_parts s e = and_parts (chained s) (all_text s) (and_parts (leb (length s) 3) _ e).1
+in_after a b e j = filter_member (together a) b texts j (in_texts b e)
 
 every : (s : List ℕ) → lawful s ≡ true → Member s all_cells
 unfolding all_cells with_one with_two together
@@ -111,10 +104,6 @@ every (a ∷ b ∷ c ∷ []) e =
 every (a ∷ b ∷ c ∷ d ∷ s) e = absurd (omega (arith, lawful_short (a ∷ b ∷ c ∷ d ∷ s) e))
 
 -- each is a cell, and it stands there once: their numbers in base 256 ascend
-
-abbrev all : (List ℕ → Bool) → List (List ℕ) → Bool
-all p [] = true
-all p (x ∷ xs) = p x && all p xs
 
 abbrev key : List ℕ → ℕ
 key [] = 0
@@ -145,7 +134,7 @@ cell_values =
     record {
       strings = all_cells;
       count = refl;
-      each = (Decides-by_and lawful (λ s. lawful s ≡ true) (all lawful) (λ _. ((λ h. h), (λ h. h))) refl (λ _ _. refl) all_cells).0 refl;
+      each = (Decides-by_and lawful (λ s. lawful s ≡ true) (list_all lawful) (λ _. ((λ h. h), (λ h. h))) refl (λ _ _. refl) all_cells).0 refl;
       every = every;
       once = distinct 0 all_cells refl;
     }

@@ -8,3 +8,4 @@ pub mod Same
 pub mod Count
 pub mod Spans
 pub mod Leads
+pub mod Written

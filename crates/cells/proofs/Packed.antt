@@ -21,8 +21,11 @@ filled_text (c ∷ s) n e =
     let some = text_not_zero c parts.0 in
     rw some (ap (λ l. c ∷ l) (filled_text s n parts.1))
 
+pub lawful_parts : (s : List ℕ) → lawful s ≡ true → (chained s ≡ true) × (all_text s ≡ true)
+lawful_parts s e = and_parts (chained s) (all_text s) (and_parts (leb (length s) 3) _ e).1
+
 pub filled_padded : (s : List ℕ) → lawful s ≡ true → filled (padded s) ≡ s
-filled_padded s e = filled_text s _ (and_parts (chained s) (all_text s) (and_parts (leb (length s) 3) _ e).1).1
+filled_padded s e = filled_text s _ (lawful_parts s e).1
 
 pub lawful_short : (s : List ℕ) → lawful s ≡ true → length s ≤ 3
 lawful_short s e = leb-true (length s) 3 (and_parts (leb (length s) 3) _ e).0

@@ -4,7 +4,7 @@ ghost use Rattle.cells.specs.Values.{filled, lawful, padded};
 
 // Blank, or one to three text codes in which each later code has verdict Compose after the one before it. The codes
 // fill three places from the first on, and 00 marks a place that is empty. A panel keeps cells in fixed memory and copies
-// them, which an `ArrayVec` cannot be.
+// them; an `ArrayVec` is not `Copy`.
 #[derive(Clone, Copy, Debug)]
 pub struct Cell {
     pub(crate) places: [u8; 3],

@@ -28,7 +28,8 @@ fn is_lawful(codes: &[u8]) -> bool
 }
 
 impl Cell {
-    // The cell of these codes, or none where no cell may hold them. There are 2,419 cells.
+    // The cell of these codes, or none where no cell may hold them. There are 2,419 cells. The error of a `TryFrom` would
+    // say no more than the `None`.
     pub fn new(codes: &[u8]) -> Option<Cell>
         ensures value { option_map held result ≡ (if lawful codes.now then Some codes.now else None) }
         ensures count { Exactly 2419 (λ s. lawful s ≡ true) }
@@ -76,8 +77,8 @@ impl Cell {
     }
 }
 
-// Written out, since a derived one does not say that it decides which cells are the same: its proof does not close where a
-// type has facts beside its fields.
+// Written out, so that a clause says that it decides which cells are the same. Of a derived one the check does not find that,
+// since a cell has facts beside its places, and every caller would have to show it.
 impl PartialEq for Cell {
     ghost eq = { on (λ x. x.places) (pointwise nat_eq) };
 

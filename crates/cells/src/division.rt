@@ -1,7 +1,7 @@
 // The runs and the cells of a string. A code belongs to the run of the code before it exactly when their verdict is
 // Compose; a run that begins with a control code has no cell, and every other run is one.
-ghost use Rattle.std.specs.Prelude.{◌≡◌, ◌*◌, ◌≤◌, true, not, ◌&&◌, length};
-ghost use Rattle.codes.specs.Classes.{class_of, is_control};
+ghost use Rattle.std.specs.Prelude.{◌≡◌, ◌*◌, ◌≤◌, true, length};
+ghost use Rattle.codes.specs.Classes.{class_of};
 ghost use Rattle.cells.specs.Runs.{Spanned, cell_at, first_run, joins, runs, width_of};
 ghost use Rattle.cells.specs.Cuttings.{AllShort, OneDivision};
 ghost use Rattle.cells.specs.Values.{all_text};

@@ -12,7 +12,7 @@ use std::fmt;
 #[derive(Clone, Copy, Debug)]
 pub struct Codes<'a>(pub &'a [u8]);
 
-impl<'a> fmt::Display for Codes<'a> {
+impl fmt::Display for Codes<'_> {
     ghost output = { λ x. Some (hexes x.0.now) };
 
     fn fmt<W: fmt::Write>(&self, f: &mut fmt::Formatter<W>) -> fmt::Result {

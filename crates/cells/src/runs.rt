@@ -7,7 +7,8 @@ ghost use Rattle.cells.specs.Runs.{is_cell, runs};
 use crate::division::first_run_len;
 use codes::classes::class_of;
 
-// The runs that are left of a string.
+// The runs that are left of a string. The library's `chunk_by` would give them too, but its type has a closure's in it, which
+// no signature can name.
 #[derive(Clone, Debug, Drop)]
 pub struct Runs<'a> {
     rest: &'a [u8],

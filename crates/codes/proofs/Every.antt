@@ -1,6 +1,6 @@
 -- What is computed at each class, or at each number below a bound, holds at any.
-use Rattle.std.proofs.Common.{◌≡◌, ℕ, zero, suc, ◌<◌, Bool, true, false, not, ◌&&◌, ◌||◌, List, [], ◌∷◌, refl}
-use Rattle.std.specs.List.{AllByRecursion}
+use Rattle.std.proofs.Common.{◌≡◌, ℕ, zero, suc, ◌<◌, Bool, true, false, not, ◌&&◌, ◌||◌, refl}
+use Rattle.std.specs.List.{AllByRecursion, list_all}
 use Rattle.std.proofs.lemmas.Bool.Decides.{Decides-below_and}
 use Rattle.std.proofs.ByRecursion.{Decides-by_and}
 use Rattle.codes.specs.declared.classes.Class.{Class}
@@ -26,17 +26,13 @@ every P h Av1 = h.1.1.1.1.1.1.1.1.1.1.1.1.1.1.0
 every P h Av2 = h.1.1.1.1.1.1.1.1.1.1.1.1.1.1.1.0
 every P h Av3 = h.1.1.1.1.1.1.1.1.1.1.1.1.1.1.1.1.0
 
-abbrev all : (Class → Bool) → List Class → Bool
-all p [] = true
-all p (x ∷ xs) = p x && all p xs
-
 abbrev pub all_classes : (Class → Bool) → Bool
-all_classes p = all p classes
+all_classes p = list_all p classes
 
 pub at_class : (p : Class → Bool) → all_classes p ≡ true → (c : Class) → p c ≡ true
 at_class p t =
     every (λ c. p c ≡ true)
-    ((Decides-by_and p (λ c. p c ≡ true) (all p) (λ _. ((λ h. h), (λ h. h))) refl (λ _ _. refl) classes).0 t)
+    ((Decides-by_and p (λ c. p c ≡ true) (list_all p) (λ _. ((λ h. h), (λ h. h))) refl (λ _ _. refl) classes).0 t)
 
 pub at_classes : (p : Class → Class → Bool) → all_classes (λ x. all_classes (p x)) ≡ true → (x y : Class) → p x y ≡ true
 at_classes p t x = at_class (p x) (at_class (λ z. all_classes (p z)) t x)

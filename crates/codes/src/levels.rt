@@ -15,7 +15,7 @@ pub enum DisplayLevel {
     Below,
 }
 
-// The level of each class, in the order of the classes.
+// The level of each class, in the order of the classes. It is a table, as the standard has it beside that of the verdicts.
 static LEVELS: [DisplayLevel; 17] = [
     // Ctrl
     Nowhere,

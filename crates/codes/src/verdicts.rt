@@ -19,7 +19,8 @@ pub enum Verdict {
     NoDisplay,
 }
 
-// A row is the class of the first code, and its letters stand for the class of the second.
+// A row is the class of the first code, and its letters stand for the class of the second. The array is flat, as this
+// product keeps the standard's figure: 289 letters, 17 to a row.
 static TABLE: [Verdict; 289] = [
     // Ctrl
     X, A, A, A, A, A, A, R, R, R, R, R, R, R, R, R, R,

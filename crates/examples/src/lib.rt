@@ -28,10 +28,10 @@ pub fn same_class(first: Class, second: Class) -> bool
 }
 
 // Whether four rows have the same codes in two columns.
-pub fn same_stack(first: Stack, second: Stack) -> bool
-    ensures { Decides result (first ≡ second) }
+pub fn same_stack(left: Stack, right: Stack) -> bool
+    ensures { Decides result (left ≡ right) }
 {
-    second == first
+    left == right
 }
 
 // The worked examples of docs/RULES.md that need neither panel nor editor, and cases at their edges.

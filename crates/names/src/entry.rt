@@ -18,11 +18,11 @@ use std::fmt;
 #[derive(Clone, Copy)]
 struct Cells<'a>(&'a [u8]);
 
-impl<'a> fmt::Display for Cells<'a> {
+impl fmt::Display for Cells<'_> {
     ghost output = { λ x. Some (cells_text x.0.now) };
 
     fn fmt<W: fmt::Write>(&self, f: &mut fmt::Formatter<W>) -> fmt::Result {
-        // Tried with a `filter`: the proof of a `for` over one with a closure doesn't close in a generic function.
+        // Tried with a `filter`: in a generic function the check cannot state what a `for` over one keeps.
         for run in Runs::of(self.0) {
             if !is_cell(run) {
                 continue;
@@ -57,7 +57,7 @@ struct Reason<'a> {
     refusal: Refusal,
 }
 
-impl<'a> fmt::Display for Reason<'a> {
+impl fmt::Display for Reason<'_> {
     ghost output = { λ x. Some (reason_text x.settings x.name.now x.refusal) };
 
     fn fmt<W: fmt::Write>(&self, f: &mut fmt::Formatter<W>) -> fmt::Result {
@@ -118,7 +118,7 @@ impl<'a> Entry<'a> {
     }
 }
 
-impl<'a> fmt::Display for Entry<'a> {
+impl fmt::Display for Entry<'_> {
     ghost output = { λ x. Some (line_text x.settings x.number x.name.now) };
 
     fn fmt<W: fmt::Write>(&self, f: &mut fmt::Formatter<W>) -> fmt::Result {

@@ -4,7 +4,8 @@ ghost use Rattle.std.specs.Iterator.{YieldsFirstRef, item_count};
 ghost use Rattle.std.specs.Str.Lines.{strip_carriage_return};
 ghost use Rattle.names.specs.Lists.{names};
 
-// The names of a list that are still to come.
+// The names of a list that are still to come. `split_inclusive` would leave each line its end, and `split` give an empty
+// line more.
 #[derive(Clone, Debug, Drop)]
 pub(crate) struct Names<'a> {
     rest: &'a [u8],

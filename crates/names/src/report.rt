@@ -16,7 +16,7 @@ pub fn report(heap: Global, settings: Settings, list: &[u8]) -> Result<String, f
     ensures { IfOk result (λ text. string_bytes text ≡ report_text settings 0 0 (names list.now)) }
 {
     let mut text = String::new(heap);
-    // Counted here, since the last line tells it too: an `enumerate` would not be at hand there.
+    // Counted by hand, since the last line tells both numbers: an `enumerate` would be gone by then.
     let mut number = 0;
     let mut ok = 0;
     for name in Names::of(list) {

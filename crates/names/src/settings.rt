@@ -13,6 +13,17 @@ pub struct Settings {
     pub level: u8,
 }
 
+impl Default for Settings {
+    ghost is_default = { λ s. s ≡ default_settings };
+
+    fn default() -> Settings {
+        Settings {
+            columns: 40,
+            level: 1,
+        }
+    }
+}
+
 // What is wrong with how the program was called.
 #[derive(Clone, Copy, Debug, PartialEq, Eq)]
 pub enum Misuse {
@@ -36,17 +47,6 @@ impl fmt::Display for Misuse {
 }
 
 impl Error for Misuse {}
-
-impl Default for Settings {
-    ghost is_default = { λ s. s ≡ default_settings };
-
-    fn default() -> Settings {
-        Settings {
-            columns: 40,
-            level: 1,
-        }
-    }
-}
 
 // A number with one digit more behind it, if that is a digit and the number stays below 256.
 fn with_digit(number: u8, code: u8) -> Option<u8>

@@ -1,6 +1,6 @@
 -- What the grid panel shows, said of its table as a whole: the first cells, as many as the panel has columns.
 use Rattle.std.proofs.Common.{◌≡◌, [], map, take, get_or, sym, ap, ◌∙◌, arith}
-use Rattle.std.proofs.lemmas.List.{get_or-take, length-map, length-take-le, take-map}
+use Rattle.std.proofs.lemmas.List.{get_or-take, take-map}
 use Rattle.std.proofs.lemmas.List.FromFn.{fill_by_all}
 use Rattle.cells.specs.Contents.{held}
 use Rattle.panels.specs.declared.grid.Grid.{Grid}

@@ -1,6 +1,6 @@
 -- A cell's codes stand in it from the base outward, each at a level of its own: base, below, above, top. So each lies in the
 -- row of its level, and the rows give the cell again.
-use Rattle.std.proofs.Common.{◌≡◌, ℕ, zero, suc, ◌+◌, ◌<◌, ◌≤◌, true, not, ◌&&◌, ◌||◌, eqb, ltb, leb, List, [], ◌∷◌, length, get_or, sym, refl, ap, ◌∙◌, subst, ⊎_elim, unwrap_or, arith}
+use Rattle.std.proofs.Common.{◌≡◌, ℕ, zero, suc, ◌+◌, ◌<◌, ◌≤◌, true, not, ◌&&◌, ◌||◌, eqb, ltb, List, [], ◌∷◌, length, get_or, sym, refl, ap, ◌∙◌, subst, ⊎_elim, unwrap_or, arith}
 use Rattle.std.proofs.lemmas.Bool.{and_parts, cases_lt, cond-false, cond-true, eq-eqb, eqb-true, ltb-true, ne_eqb}
 use Rattle.codes.specs.declared.classes.Class.{Class}
 use Rattle.codes.specs.declared.levels.DisplayLevel.{DisplayLevel}
@@ -15,6 +15,7 @@ use Rattle.cells.specs.declared.cell.Cell.{Cell}
 use Rattle.cells.specs.Contents.{Member, held}
 use Rattle.cells.specs.Runs.{joins}
 use Rattle.cells.specs.Values.{all_text, chained, lawful}
+use Rattle.cells.proofs.Packed.{lawful_parts}
 use Rattle.cells.proofs.Same.{held_lawful}
 use Rattle.panels.specs.Stacks.{gathered, in_row, on_level, present, stack_of}
 
@@ -132,7 +133,7 @@ chain_rises n (c ∷ d ∷ s) h ch t =
 
 rises : (s : List ℕ) → lawful s ≡ true → Rising 0 s
 rises s e =
-    let parts = and_parts (chained s) (all_text s) (and_parts (leb (length s) 3) _ e).1 in
+    let parts = lawful_parts s e in
     chain_rises 0 s (λ _. omega arith) parts.0 parts.1
 
 pub gathered_again : (s : List ℕ) → lawful s ≡ true → gathered (stack_of s) ≡ s

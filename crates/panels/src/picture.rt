@@ -18,7 +18,7 @@ fn bar_at(j: usize, cursor: usize) -> char
     if j == cursor { '>' } else { '|' }
 }
 
-impl<'a, N: Panel> fmt::Display for Picture<'a, N> {
+impl<N: Panel> fmt::Display for Picture<'_, N> {
     ghost output = { λ x. Some (picture_text (N.Panel.screen x.panel.now)) };
 
     fn fmt<W: fmt::Write>(&self, f: &mut fmt::Formatter<W>) -> fmt::Result {

@@ -34,7 +34,8 @@ fn on_level(level: DisplayLevel, codes: &[u8]) -> u8
 }
 
 impl Stack {
-    // A cell's codes, each in the row of its display level. No other cell has the same rows.
+    // A cell's codes, each in the row of its display level. No other cell has the same rows. `of` and `cell` are no `From`
+    // and `TryFrom`, whose one relation would hide these clauses.
     pub fn of(cell: &Cell) -> Stack
         ensures value { result ≡ stack_of (held cell.now) }
         ensures each { (code : ℕ) → Member code (held cell.now) → in_row result (level_of (class_of code)) ≡ code }

@@ -18,4 +18,4 @@ returns c =
     let all : c.filter.result.iter.rest.now ≡ s = ap (λ r. r.rest.now) c.filter.ensures.source ∙ c.of.ensures in
     let cells = YieldsList-from_filter _ (is_cell class_of) (YieldsList-from_first (λ x. x.now) (λ r. runs class_of r.rest.now) (runs class_of s) (ap (runs class_of) all)) c.filter.ensures.closure (λ x r q k. search (rules, tests)) in
     let value : c.count.result ≡ width_of class_of s = count_from_yields_List c.filter.result _ c.count.ensures.ran cells in
-    record { value = value; division = one_division s; text = λ e. omega (arith, three_to_a_text_cell s e) }
+    record { value = omega (arith, value); division = one_division s; text = λ e. omega (arith, value, three_to_a_text_cell s e) }
