@@ -1,9 +1,9 @@
 -- What the program's words ask for.
-use Rattle.std.specs.Prelude.{ℕ, ◌+◌, ◌-◌, ◌*◌, cond, ◌&&◌, List, [], ◌∷◌, Some, None, Ok, Err, Option, Result, nat_le}
+use Rattle.std.specs.Prelude.{ℕ, ◌+◌, ◌-◌, ◌*◌, cond, ◌&&◌, List, [], ◌∷◌, Some, None, Ok, Err, codes, Option, Result, nat_le}
 use Rattle.std.specs.Char.{is_ascii_digit}
 use Rattle.std.specs.Option.{ok_or, option_and_then}
 use Rattle.names.specs.declared.settings.Misuse.{Misuse}
-use Rattle.names.specs.declared.settings.Misuse.TheVariants.{Columns, Level, Words}
+use Rattle.names.specs.declared.settings.Misuse.TheVariants.{Columns, Level, Words, Unreadable, Length}
 use Rattle.names.specs.declared.settings.Settings.{Settings}
 
 -- a number with one digit more behind it, if that is a digit and the number stays below 256
@@ -49,3 +49,11 @@ settings_of [] = Ok default_settings
 settings_of (c ∷ []) = both (columns_of c) (Ok default_settings.level)
 settings_of (c ∷ l ∷ []) = both (columns_of c) (level_of l)
 settings_of (c ∷ l ∷ x ∷ xs) = Err Words
+
+-- how a misuse is told
+abbrev pub misuse_text : Misuse → List ℕ
+misuse_text Columns = codes "COLUMNS is a number from 1 to 80"
+misuse_text Level = codes "LEVEL is a number from 0 to 2"
+misuse_text Words = codes "at most two words are taken, COLUMNS and LEVEL"
+misuse_text Unreadable = codes "the words cannot be read as text"
+misuse_text Length = codes "the list has more than 1048576 bytes"

@@ -1,6 +1,6 @@
 // What the program is asked for.
-ghost use Rattle.std.specs.Prelude.{◌≡◌, map, string_bytes};
-ghost use Rattle.names.specs.Asked.{default_settings, number_of, setting_of, settings_of, with_digit};
+ghost use Rattle.std.specs.Prelude.{◌≡◌, Some, map, string_bytes};
+ghost use Rattle.names.specs.Asked.{default_settings, misuse_text, number_of, setting_of, settings_of, with_digit};
 
 use std::error::Error;
 use std::fmt;
@@ -35,6 +35,8 @@ pub enum Misuse {
 }
 
 impl fmt::Display for Misuse {
+    ghost output = { λ x. Some (misuse_text x) };
+
     fn fmt<W: fmt::Write>(&self, f: &mut fmt::Formatter<W>) -> fmt::Result {
         f.write_str(match self {
             Misuse::Columns => "COLUMNS is a number from 1 to 80",
