@@ -7,6 +7,7 @@ ghost use Rattle.cells.specs.Texts.{cell_text};
 use crate::cell::Cell;
 use codes::hex::Hex;
 use std::fmt;
+use std::fmt::Display;
 
 // Codes that are shown in hexadecimal, one after the other.
 #[derive(Clone, Copy, Debug)]
@@ -17,8 +18,8 @@ impl fmt::Display for Codes<'_> {
 
     fn fmt<W: fmt::Write>(&self, f: &mut fmt::Formatter<W>) -> fmt::Result {
         for code in self.0 {
-            let code = Hex(*code);
-            write!(f, "{code}")?;
+            // A `write!` for each would take longer.
+            Hex(*code).fmt(f)?;
         }
         Ok(())
     }

@@ -39,6 +39,7 @@ pub fn same_stack(left: Stack, right: Stack) -> bool
 mod tests {
     use cells::cell::Cell;
     use cells::division::{Span, cell_at, first_run_len, width};
+    use cells::reading::Codes;
     use cells::runs::{Runs, is_cell};
     use codes::classes::{class_of, is_mark, is_text};
     use codes::levels::{DisplayLevel, level_of};
@@ -52,6 +53,8 @@ mod tests {
     use policies::level::LevelPolicy;
     use policies::policy::Policy;
     use policies::tag::TagPolicy;
+    use std::fmt;
+    use std::fmt::Write;
     use std::test::Fail;
 
     #[test]
@@ -372,6 +375,44 @@ mod tests {
         let (hex, frame, editor) = (Layer::Hex, Layer::Frame, Layer::Editor);
         let layers = format!(in rt.alloc(); "{hex} {frame} {editor}")?;
         assert_eq!(rt; layers.as_str(), "hex frame editor");
+        Ok(())
+    }
+
+    // It takes so many pieces of text, and no more.
+    #[derive(Drop)]
+    struct Takes {
+        text: String,
+        pieces: usize,
+    }
+
+    impl fmt::Write for Takes {
+        fn write_str(&mut self, s: &str) -> fmt::Result {
+            if self.pieces == 0 {
+                return Err(fmt::Error);
+            }
+            self.pieces -= 1;
+            self.text.push_str(s)?;
+            Ok(())
+        }
+    }
+
+    #[test]
+    fn digit_by_digit(rt: HostRuntime) -> Result<(), Fail> {
+        // How many pieces are taken, what is there then, and whether that is all.
+        let cases = [
+            (0, "", false),
+            (1, "A", false),
+            (2, "A1", false),
+            (3, "A10", false),
+            (4, "A107", true),
+        ];
+        for (pieces, expected, whole) in cases {
+            let text = String::new(rt.alloc());
+            let mut taker = Takes { text, pieces };
+            let codes = Codes(&[0xA1, 0x07]);
+            assert_eq!(rt; write!(taker, "{codes}").is_ok(), whole);
+            assert_eq!(rt; taker.text.as_str(), expected);
+        }
         Ok(())
     }
 
