@@ -1,8 +1,9 @@
 -- Runs from the front of a string, for any kind of code that tells its class.
-use Rattle.std.proofs.Common.{◌≡◌, ℕ, suc, ◌+◌, ◌-◌, ◌<◌, ◌≤◌, Bool, true, false, cond, List, [], ◌∷◌, length, get_or, take, drop, sym, refl, ap, ◌∙◌, arith}
+use Rattle.std.proofs.Common.{◌≡◌, ℕ, suc, ◌+◌, ◌-◌, ◌<◌, ◌≤◌, Bool, true, false, cond, not, List, [], ◌∷◌, length, get_or, take, drop, sym, refl, ap, ◌∙◌, arith}
 use Rattle.std.proofs.lemmas.List.{at_drop_more, take_rest}
 use Rattle.codes.specs.declared.classes.Class.{Class}
-use Rattle.cells.specs.Runs.{joins, into, runs, first_run}
+use Rattle.codes.specs.Classes.{is_control}
+use Rattle.cells.specs.Runs.{joins, into, runs, first_run, is_cell}
 
 -- what `runs` gives at a code, by whether the next one joins it
 abbrev pub led : {X : Type 0} → Bool → X → List (List X) → List (List X)
@@ -51,6 +52,18 @@ module _ {X : Type 0} (k : X → Class) where
   pub runs_front : (c : X) (s : List X) → runs k (c ∷ s) ≡ first_run (runs k (c ∷ s)) ∷ runs k (drop (front (c ∷ s)) (c ∷ s))
   runs_front c [] = refl
   runs_front c (d ∷ s) = led_step (joins (k c) (k d)) c (d ∷ s) (runs_front d s)
+
+  into_cell : (c : X) (rs : List (List X)) → is_cell k (first_run (into c rs)) ≡ not (is_control (k c))
+  into_cell c [] = refl
+  into_cell c (r ∷ rs) = refl
+
+  led_cell : (b : Bool) (c : X) (rs : List (List X)) → is_cell k (first_run (led b c rs)) ≡ not (is_control (k c))
+  led_cell true c rs = into_cell c rs
+  led_cell false c rs = refl
+
+  pub first_cell : (c : X) (s : List X) → is_cell k (first_run (runs k (c ∷ s))) ≡ not (is_control (k c))
+  first_cell c [] = refl
+  first_cell c (d ∷ s) = led_cell (joins (k c) (k d)) c (runs k (d ∷ s))
 
   cond_le : (b : Bool) (m n : ℕ) → m ≤ n → cond b (suc m) 0 ≤ suc n
   cond_le true m n h = omega arith

@@ -1,4 +1,5 @@
 pub mod Fronts
+pub mod Widths
 pub mod Short
 pub mod OneWay
 pub mod Texts

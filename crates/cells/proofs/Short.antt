@@ -51,20 +51,6 @@ module _ {X : Type 0} (k : X → Class) where
   runs_short (c ∷ []) = (omega arith, tt)
   runs_short (c ∷ d ∷ s) = led_short (joins (k c) (k d)) c (runs k (d ∷ s)) (front_short c (d ∷ s)) (runs_short (d ∷ s))
 
-  -- there are no more runs than codes
-  into_few : (c : X) (rs : List (List X)) → length (into c rs) ≤ suc (length rs)
-  into_few c [] = omega arith
-  into_few c (r ∷ rs) = omega arith
-
-  led_few : (b : Bool) (c : X) (rs : List (List X)) → length (led b c rs) ≤ suc (length rs)
-  led_few true c rs = into_few c rs
-  led_few false c rs = omega arith
-
-  pub runs_few : (s : List X) → length (runs k s) ≤ length s
-  runs_few [] = omega arith
-  runs_few (c ∷ []) = omega arith
-  runs_few (c ∷ d ∷ s) = let rest = runs_few (d ∷ s) in omega (arith, led_few (joins (k c) (k d)) c (runs k (d ∷ s)))
-
   -- a string with no control code has at most three codes for each cell
   into_cells : (c : X) (rs : List (List X)) → is_control (k c) ≡ false → AllByRecursion (λ r. is_cell k r ≡ true) rs → AllByRecursion (λ r. is_cell k r ≡ true) (into c rs)
   into_cells c [] e h = (ap not e, tt)

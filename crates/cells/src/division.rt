@@ -1,7 +1,7 @@
 // The runs and the cells of a string. A code belongs to the run of the code before it exactly when their verdict is
 // Compose; a run that begins with a control code has no cell, and every other run is one.
-ghost use Rattle.std.specs.Prelude.{◌≡◌, ◌*◌, ◌≤◌, true, length};
-ghost use Rattle.codes.specs.Classes.{class_of};
+ghost use Rattle.std.specs.Prelude.{◌≡◌, ◌*◌, ◌≤◌, true, not, ◌&&◌, length};
+ghost use Rattle.codes.specs.Classes.{class_of, is_control};
 ghost use Rattle.cells.specs.Runs.{Spanned, cell_at, first_run, joins, runs, width_of};
 ghost use Rattle.cells.specs.Cuttings.{AllShort, OneDivision};
 ghost use Rattle.cells.specs.Values.{all_text};
@@ -23,6 +23,13 @@ fn joined(first: Class, second: Class) -> bool
     ensures { result ≡ joins first second }
 {
     class_verdict(first, second).is_compose()
+}
+
+// Whether a cell begins with a code of a class that stands after one of the class before it.
+fn begins_cell(before: Class, class: Class) -> bool
+    ensures { result ≡ (not (joins before class) && not (is_control class)) }
+{
+    !joined(before, class) && !class.is_control()
 }
 
 // How many codes the first run has; 0 if there is none. No run has more than three.
@@ -50,7 +57,17 @@ pub fn width(codes: &[u8]) -> usize
     ensures division { OneDivision codes.now }
     ensures text { all_text codes.now ≡ true → length codes.now ≤ 3 * result }
 {
-    Runs::of(codes).filter(|run| is_cell(run)).count()
+    // A count over `Runs` takes up to twice as long, where runs are short and differ.
+    let mut cells = 0;
+    let mut before = Class::Ctrl;
+    for code in codes {
+        let class = class_of(*code);
+        if begins_cell(before, class) {
+            cells += 1;
+        }
+        before = class;
+    }
+    cells
 }
 
 // Where cell number `j` lies, counted from 0; none past the last.

@@ -1,21 +1,34 @@
-use Rattle.std.proofs.Common.{◌≡◌, inl, rules, tests, ap, ◌∙◌, arith, length}
-use Rattle.std.proofs.lemmas.Iterator.Consumers.{YieldsList-from_filter, YieldsList-from_first, count_from_yields_List}
+use Rattle.std.proofs.Common.{◌≡◌, ◌+◌, true, false, drop, ap, arith}
+use Rattle.std.proofs.lemmas.List.{at_drop_all}
 use Rattle.codes.specs.Classes.{class_of}
-use Rattle.cells.specs.Runs.{is_cell, runs, width_of}
+use Rattle.cells.specs.Runs.{width_of}
 use Rattle.cells.proofs.OneWay.{one_division}
-use Rattle.cells.proofs.Short.{runs_few}
 use Rattle.cells.proofs.Texts.{three_to_a_text_cell}
+use Rattle.cells.proofs.Widths.{begun, begun_at, width_from_start}
 use Rattle.cells.proofs.division.width.Goals as goal
+use Rattle.cells.proofs.division.width.Goals.{then-begins_cell, else-begins_cell}
 
-pub count-requires-clause-fits : goal.count-requires-clause-fits
-count-requires-clause-fits c =
-    let all : c.filter.result.iter.rest.now ≡ c.args.codes.now = ap (λ r. r.rest.now) c.filter.ensures.source ∙ c.of.ensures in
-    inl (omega (arith, runs_few class_of c.args.codes.now, ap (λ s. length (runs class_of s)) all))
+pub loop-code-init : goal.loop-code-init
+loop-code-init c = (omega arith, omega (arith, width_from_start class_of c.args.codes.now))
+
+pub loop-code-preserved : goal.loop-code-preserved
+loop-code-preserved c =
+    let s = c.args.codes.now in
+    let i = c.loop-code.code-index in
+    let next = begun_at class_of c.loop-code.before s i 0 c.class_of-class.result in
+    let known = c.class_of-class.ensures.value in
+    elim c.if-begins_cell.branch [
+      | then-begins_cell w ↦
+          let more = next true c.loop-code-test.true known w.if-begins_cell.ensures in
+          (omega (arith, w.cells-is), omega (arith, w.cells-is, c.loop-code.invariant.1, more, ap (λ b. begun class_of b (drop (i + 1) s)) w.before-is))
+      | else-begins_cell w ↦
+          let more = next false c.loop-code-test.true known w.if-begins_cell.ensures in
+          (omega (arith, w.cells-is), omega (arith, w.cells-is, c.loop-code.invariant.1, more, ap (λ b. begun class_of b (drop (i + 1) s)) w.before-is))
+    ]
 
 pub returns : goal.returns
 returns c =
     let s = c.args.codes.now in
-    let all : c.filter.result.iter.rest.now ≡ s = ap (λ r. r.rest.now) c.filter.ensures.source ∙ c.of.ensures in
-    let cells = YieldsList-from_filter _ (is_cell class_of) (YieldsList-from_first (λ x. x.now) (λ r. runs class_of r.rest.now) (runs class_of s) (ap (runs class_of) all)) c.filter.ensures.closure (λ x r q k. search (rules, tests)) in
-    let value : c.count.result ≡ width_of class_of s = count_from_yields_List c.filter.result _ c.count.ensures.ran cells in
-    record { value = omega (arith, value); division = one_division s; text = λ e. omega (arith, value, three_to_a_text_cell s e) }
+    let none = at_drop_all (begun class_of c.loop-code.before) s c.loop-code.code-index c.loop-code-test.false in
+    let value : c.loop-code.cells ≡ width_of class_of s = omega (arith, c.loop-code.invariant.1, none) in
+    record { value = value; division = one_division s; text = λ e. omega (arith, three_to_a_text_cell s e) }
