@@ -250,4 +250,20 @@ mod tests {
         assert_eq!(rt; format!(in heap; "{blank}{cell}")?.as_str(), ".A1E8");
         Ok(())
     }
+
+    // What `Debug` writes goes by the name of the panel.
+    #[test]
+    fn named(rt: HostRuntime) -> Result<(), Fail> {
+        let heap = rt.alloc();
+        let (grid, rows) = (GridPanel::new(2), RowPanel::new(2));
+        let text = format!(in heap; "{grid:?}")?;
+        assert!(rt;
+            text.starts_with("GridPanel { table: Table { cells: [Cell { places: [0, 0, 0] }, ")
+        );
+        assert!(rt; text.ends_with(" }] }, ruler: Ruler { columns: 2, cursor: 0 } }"));
+        let text = format!(in heap; "{rows:?}")?;
+        assert!(rt; text.starts_with("RowPanel { rows: Rows { top: [0, "));
+        assert!(rt; text.ends_with(", 0] }, ruler: Ruler { columns: 2, cursor: 0 } }"));
+        Ok(())
+    }
 }

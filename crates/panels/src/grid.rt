@@ -5,6 +5,7 @@ use crate::panel::MAX_COLUMNS;
 use crate::ruled::Ruled;
 use crate::store::{Column, Store};
 use cells::cell::Cell;
+use std::fmt;
 
 // A cell for every column that a panel can have. `Grid` says that they are all there, since no element can be lent yet from
 // a struct with a fact of its own.
@@ -32,6 +33,16 @@ pub struct Grid {
 
 // A panel that keeps a table of cells.
 pub type GridPanel = Ruled<Grid>;
+
+// By the panel's own name. A derived one would tell of `Ruled` and `Grid`.
+impl fmt::Debug for GridPanel {
+    fn fmt<W: fmt::Write>(&self, f: &mut fmt::Formatter<W>) -> fmt::Result {
+        f.debug_struct("GridPanel")
+            .field("table", &self.store.table)
+            .field("ruler", &self.ruler)
+            .finish()
+    }
+}
 
 impl Store for Grid {
     ghost use Rattle.panels.specs.Grids.{grid_held};

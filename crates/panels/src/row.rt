@@ -7,6 +7,7 @@ use crate::ruled::Ruled;
 use crate::stack::Stack;
 use crate::store::{Column, Store};
 use cells::cell::Cell;
+use std::fmt;
 
 // A code for every column that a panel can have, at each of the four display levels; 00 marks an empty row. What lies in one
 // column is always a cell's codes, each in the row of its level.
@@ -23,6 +24,16 @@ pub struct Rows {
 
 // A panel that keeps four rows of codes.
 pub type RowPanel = Ruled<Rows>;
+
+// By the panel's own name, as a grid panel's.
+impl fmt::Debug for RowPanel {
+    fn fmt<W: fmt::Write>(&self, f: &mut fmt::Formatter<W>) -> fmt::Result {
+        f.debug_struct("RowPanel")
+            .field("rows", &self.store)
+            .field("ruler", &self.ruler)
+            .finish()
+    }
+}
 
 impl Rows {
     ghost use Rattle.panels.specs.Rows.{stack_at};

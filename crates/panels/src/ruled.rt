@@ -10,7 +10,7 @@ use crate::store::Store;
 use cells::cell::Cell;
 
 // The store has a cell for every column that a panel can have; only those up to the panel's last are seen.
-#[derive(Debug, Drop)]
+#[derive(Drop)]
 pub struct Ruled<S> {
     pub(crate) store: S,
     pub(crate) ruler: Ruler,
