@@ -57,7 +57,8 @@ fn with_digit(number: u8, code: u8) -> Option<u8>
     if !code.is_ascii_digit() {
         return None;
     }
-    number.checked_mul(10)?.checked_add(code - b'0')
+    // `checked_mul` and `checked_add` of `u8` would take longer.
+    u8::try_from(u16::from(number) * 10 + u16::from(code - b'0')).ok()
 }
 
 // The number that a word writes with decimal digits, if it is below 256. `parse` would let a sign through.
